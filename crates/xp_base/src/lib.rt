@@ -4,8 +4,20 @@
 
 mod byte_list;
 mod errors;
+mod memory_sinks;
+mod memory_sources;
+mod named_file;
+mod plain;
+mod sinks;
+mod sources;
 mod value_list;
 
 pub use byte_list::Bytes;
 pub use errors::Memory;
+pub use memory_sinks::CalmSink;
+pub use memory_sources::CalmSource;
+pub use named_file::NamedFile;
+pub use plain::{ConstKind, Dir};
+pub use sinks::{Sink, SinkError, put_all};
+pub use sources::{Fetched, MAX_FETCH, Source, SourceError};
 pub use value_list::List;
