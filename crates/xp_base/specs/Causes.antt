@@ -4,6 +4,8 @@ use Rattle.xp_base.specs.declared.sources.SourceError.{SourceError}
 use Rattle.xp_base.specs.declared.sources.SourceError.TheVariants as source
 use Rattle.xp_base.specs.declared.sinks.SinkError.{SinkError}
 use Rattle.xp_base.specs.declared.sinks.SinkError.TheVariants as sink
+use Rattle.xp_base.specs.declared.plain.RunFault.{RunFault}
+use Rattle.xp_base.specs.declared.plain.RunFault.TheVariants as fault
 
 -- A count of faults rose in a call: it is greater after the call than before, or it stands at the end of its type,
 -- where it stays.
@@ -21,3 +23,8 @@ abbrev pub SinkCause : {T : Type 0} → (before after : ℕ) → Result T SinkEr
 SinkCause before after (Ok _) = after ≡ before
 SinkCause before after (Err sink.Failed) = Rose before after
 SinkCause before after (Err sink.Memory) = after ≡ before
+
+-- a text is cut short as its sink's answer says
+abbrev pub run_fault_of : SinkError → RunFault
+run_fault_of sink.Failed = fault.Sink
+run_fault_of sink.Memory = fault.Memory
