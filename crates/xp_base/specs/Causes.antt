@@ -4,8 +4,8 @@ use Rattle.xp_base.specs.declared.sources.SourceError.{SourceError}
 use Rattle.xp_base.specs.declared.sources.SourceError.TheVariants as source
 use Rattle.xp_base.specs.declared.sinks.SinkError.{SinkError}
 use Rattle.xp_base.specs.declared.sinks.SinkError.TheVariants as sink
-use Rattle.xp_base.specs.declared.plain.RunFault.{RunFault}
-use Rattle.xp_base.specs.declared.plain.RunFault.TheVariants as fault
+use Rattle.xp_base.specs.declared.run_faults.RunFault.{RunFault}
+use Rattle.xp_base.specs.declared.run_faults.RunFault.TheVariants as fault
 
 -- A count of faults rose in a call: it is greater after the call than before, or it stands at the end of its type,
 -- where it stays.
