@@ -164,22 +164,25 @@ pool_text ifaces = placed part_text part_size 1 ifaces
 abbrev pub directory_place : ℕ
 directory_place = 36
 
-abbrev pub pool_place : List Iface → ℕ
-pool_place ifaces = directory_place + 28 * length ifaces
+abbrev pub pool_place : ℕ → ℕ
+pool_place count = directory_place + 28 * count
 
 -- the first 16 bytes of every typelib
 abbrev pub magic : List ℕ
 magic = 88 ∷ 80 ∷ 67 ∷ 79 ∷ 77 ∷ 10 ∷ 84 ∷ 121 ∷ 112 ∷ 101 ∷ 76 ∷ 105 ∷ 98 ∷ 13 ∷ 10 ∷ 26 ∷ []
 
--- version 1.2; the directory's place is counted from 1
-unfoldable pub header_text : List Iface → List ℕ
-header_text ifaces =
-    magic ++ (1 ∷ 2 ∷ (two_bytes (length ifaces)
-    ++ (four_bytes (pool_place ifaces + length (pool_text ifaces)) ++ (four_bytes (directory_place + 1) ++ four_bytes (pool_place ifaces)))))
+-- the header for so many interfaces and so many bytes of pool: the magic, version 1.2, the number of interfaces, the file's length,
+-- the directory's place counted from 1, and the pool's place
+unfoldable pub header_text : ℕ → ℕ → List ℕ
+header_text count pool_len =
+    magic ++ (1 ∷ 2 ∷ (two_bytes count
+    ++ (four_bytes (pool_place count + pool_len) ++ (four_bytes (directory_place + 1) ++ four_bytes (pool_place count)))))
 
--- the one annotation: the last, and empty; with three bytes that fill up
+-- the one annotation, which is the last and empty, and three bytes that fill up
 abbrev pub annotation_text : List ℕ
 annotation_text = 128 ∷ 0 ∷ 0 ∷ 0 ∷ []
 
 unfoldable pub emit : Library → List ℕ
-emit lib = header_text lib.ifaces ++ (annotation_text ++ (directory_text lib.ifaces ++ pool_text lib.ifaces))
+emit lib =
+    header_text (length lib.ifaces) (length (pool_text lib.ifaces))
+    ++ (annotation_text ++ (directory_text lib.ifaces ++ pool_text lib.ifaces))

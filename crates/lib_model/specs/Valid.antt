@@ -1,5 +1,5 @@
 -- What makes a library valid: the rules of the XPCOM typelib format that speak of no place in a file.
-use Rattle.std.specs.Prelude.{◌≡◌, ◌⊎◌, ℕ, zero, suc, ◌+◌, ◌-◌, ◌<◌, ◌≤◌, ℤ, List, [], ◌∷◌, length, slice_get, Option, Some, None, IfSome, IsSome, option_and_then, sum_by, All}
+use Rattle.std.specs.Prelude.{◌≡◌, ◌⊎◌, ℕ, zero, suc, ◌+◌, ◌<◌, ◌≤◌, ℤ, List, [], ◌∷◌, length, slice_get, Option, Some, None, IfSome, IsSome, IsSomeAnd, option_and_then, sum_by, All}
 use Rattle.std.specs.Prelude.{FitsSigned}
 use Rattle.std.specs.Int.{w16, w32, FitsUnsigned}
 use Rattle.std.specs.Int.RustNames.{bit_and}
@@ -71,11 +71,11 @@ IsIfaceNumber count number = (0 < number) × (number ≤ count)
 
 -- the number of a parameter whose type is an integer (tags 0 to 7), which can tell a size or a length
 abbrev pub IsCountParam : List Param → ℕ → Type 0
-IsCountParam params number = (number < length params) × IfSome (slice_get params number) (λ p. tag_of p.ty ≤ 7)
+IsCountParam params number = IsSomeAnd (slice_get params number) (λ p. tag_of p.ty ≤ 7)
 
 -- the number of a parameter whose type is nsIID (tag 14)
 abbrev pub IsIidParam : List Param → ℕ → Type 0
-IsIidParam params number = (number < length params) × IfSome (slice_get params number) (λ p. tag_of p.ty ≡ 14)
+IsIidParam params number = IsSomeAnd (slice_get params number) (λ p. tag_of p.ty ≡ 14)
 
 -- an element's type, in a method with these parameters, among so many interfaces
 abbrev pub IsElem : ℕ → List Param → Elem → Type 0
@@ -116,10 +116,14 @@ pub record IsConstant (c : Constant) : Type 0 where
 
 -- ---- interfaces
 
+-- the body of the interface of this number, where there is one and it is resolved
+abbrev pub body_of : List Iface → ℕ → Option Body
+body_of ifaces zero = None
+body_of ifaces (suc k) = option_and_then (λ i. i.body) (slice_get ifaces k)
+
 -- 0, or the number of a resolved interface
-pub record IsParent (ifaces : List Iface) (number : ℕ) : Type 0 where
-  pub among : number ≤ length ifaces
-  pub resolved : 0 < number → IfSome (slice_get ifaces (number - 1)) (λ i. IsSome i.body)
+abbrev pub IsParent : List Iface → ℕ → Type 0
+IsParent ifaces number = (number ≡ 0) ⊎ IsSome (body_of ifaces number)
 
 pub record IsBody (ifaces : List Iface) (b : Body) : Type 0 where
   pub parent : IsParent ifaces b.parent
@@ -135,11 +139,6 @@ pub record IsIface (ifaces : List Iface) (i : Iface) : Type 0 where
   pub body : IfSome i.body (IsBody ifaces)
 
 -- ---- chains of parents
-
--- the body of the interface of this number, where there is one and it is resolved
-abbrev pub body_of : List Iface → ℕ → Option Body
-body_of ifaces zero = None
-body_of ifaces (suc k) = option_and_then (λ i. i.body) (slice_get ifaces k)
 
 -- the parent and the number of own methods of an interface that has this body
 abbrev pub parent_in : Option Body → ℕ
