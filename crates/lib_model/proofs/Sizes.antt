@@ -63,7 +63,7 @@ length-descriptor_text k b =
     simp (length-append, length-two_bytes)
     (omega (arith, length-placed method_text method_size method_len length-method_text k b.methods, length-placed constant_text constant_size constant_len length-constant_text (k + sum_by method_size b.methods) b.constants))
 
-length-body_text : (k j : ℕ) (o : Option Body) → length (body_text k o) ≡ length (body_text j o)
+pub length-body_text : (k j : ℕ) (o : Option Body) → length (body_text k o) ≡ length (body_text j o)
 length-body_text k j None = refl
 length-body_text k j (Some b) =
     length-append (member_names b) (descriptor_text k b)

@@ -1,6 +1,6 @@
 use Rattle.std.proofs.Common.{◌≡◌, ◌+◌, length}
 use Rattle.lib_model.specs.Emit.{emit, pool_place}
-use Rattle.typelib_writer.proofs.FileFacts.{length_directory, length_emit}
+use Rattle.lib_model.proofs.FileSize.{length_directory, length_emit}
 use Rattle.typelib_writer.proofs.FitFacts.{library_fits}
 use Rattle.typelib_writer.proofs.file.write.Goals as goal
 
