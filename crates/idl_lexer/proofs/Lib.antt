@@ -1,0 +1,6 @@
+pub mod Basics
+pub mod ByteLaws
+pub mod PartLaws
+pub mod PairLaws
+pub mod KindLaws
+pub mod TokenLaws

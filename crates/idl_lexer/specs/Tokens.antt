@@ -1,0 +1,50 @@
+-- The tokens of a text, and the place at which a text has none.
+use Rattle.std.specs.Prelude.{◌≡◌, ◌≢◌, ◌≤◌, ◌<◌, ◌+◌, ◌-◌, ℕ, ◌==◌, List, [], ◌∷◌, ◌++◌, length, take, drop, Option, Some, None, count_by}
+use Rattle.std.specs.List.{slice_range}
+use Rattle.idl_lexer.specs.declared.token.Kind.{Kind}
+use Rattle.idl_lexer.specs.declared.token.Token.{Token}
+use Rattle.idl_lexer.specs.Pieces.{Piece, IsPiece, text_of, IsChain}
+
+-- the line of what stands behind these bytes: one more than their line feeds
+abbrev pub line_behind : List ℕ → ℕ
+line_behind before = 1 + count_by (λ c. c == 10) before
+
+-- the piece's token, where it has one, and then these
+abbrev pub with_token : List ℕ → Option Kind → List ℕ → List Token → List Token
+with_token before None text tokens = tokens
+with_token before (Some what) text tokens =
+    record { kind = what; start = length before; end = length before + length text; line = line_behind before } ∷ tokens
+
+-- the tokens among the pieces, which stand behind these bytes
+abbrev pub tokens_behind : List ℕ → List Piece → List Token
+tokens_behind before [] = []
+tokens_behind before (p ∷ ps) = with_token before p.kind p.text (tokens_behind (before ++ p.text) ps)
+
+-- the text is a chain of pieces, and these are the tokens among them
+pub record AreTokens (text : List ℕ) (tokens : List Token) : Type 0 where
+  pub pieces : List Piece
+  pub whole : text ≡ text_of pieces
+  pub chain : IsChain pieces []
+  pub among : tokens ≡ tokens_behind [] pieces
+
+-- text is left, and no piece begins it
+abbrev pub IsStuck : List ℕ → Type 0
+IsStuck rest = (rest ≢ []) × ((what : Option Kind) (text next : List ℕ) → rest ≡ text ++ next → IsPiece what text next → ⊥)
+
+-- a chain of pieces reaches this place, and no piece begins there
+pub record IsNoToken (text : List ℕ) (at : ℕ) : Type 0 where
+  pub pieces : List Piece
+  pub rest : List ℕ
+  pub whole : text ≡ text_of pieces ++ rest
+  pub chain : IsChain pieces rest
+  pub reached : at ≡ length (text_of pieces)
+  pub stuck : IsStuck rest
+
+-- the bytes of a token
+abbrev pub spelling_of : List ℕ → Token → List ℕ
+spelling_of text token = slice_range text token.start token.end
+
+-- the tokens stand one behind the other between the two places, and none is empty
+abbrev pub StandInOrder : ℕ → List Token → ℕ → Type 0
+StandInOrder from [] to = from ≤ to
+StandInOrder from (t ∷ ts) to = (from ≤ t.start) × (t.start < t.end) × StandInOrder t.end ts to

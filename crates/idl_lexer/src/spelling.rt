@@ -1,0 +1,1 @@
+//! Readers of the spellings of tokens.
