@@ -3,6 +3,12 @@ use Rattle.std.proofs.Common.{◌≡◌, ◌≤◌, ◌<◌, ◌+◌, ℕ, Bool,
 use Rattle.std.specs.Prelude.{option_and_then}
 use Rattle.std.specs.Option.{option_map, option_or}
 
+abbrev pub pair : {A B : Type 0} → A → B → A × B
+pair x y = (x, y)
+
+pub some_alike : {A : Type 0} {x y : A} → Some x ≡ Some y → x ≡ y
+some_alike e = cc
+
 -- which way a test went
 pub chosen : {A : Type 0} (b : Bool) (x y z : A) → cond b x y ≡ z → ((b ≡ true) × (x ≡ z)) ⊎ ((b ≡ false) × (y ≡ z))
 chosen true x y z e = inl (refl, e)

@@ -4,3 +4,5 @@ pub mod PartLaws
 pub mod PairLaws
 pub mod KindLaws
 pub mod TokenLaws
+pub mod PieceLaws
+pub mod ChainLaws
