@@ -9,6 +9,11 @@ pair x y = (x, y)
 pub some_alike : {A : Type 0} {x y : A} → Some x ≡ Some y → x ≡ y
 some_alike e = cc
 
+-- what is taken and given on as it is
+pub and_then_some : {A : Type 0} (o : Option A) → option_and_then (λ x. Some x) o ≡ o
+and_then_some (Some x) = refl
+and_then_some None = refl
+
 -- which way a test went
 pub chosen : {A : Type 0} (b : Bool) (x y z : A) → cond b x y ≡ z → ((b ≡ true) × (x ≡ z)) ⊎ ((b ≡ false) × (y ≡ z))
 chosen true x y z e = inl (refl, e)

@@ -6,3 +6,4 @@ pub mod KindLaws
 pub mod TokenLaws
 pub mod PieceLaws
 pub mod ChainLaws
+pub mod ReadLaws
