@@ -7,3 +7,4 @@ pub mod TokenLaws
 pub mod PieceLaws
 pub mod ChainLaws
 pub mod ReadLaws
+pub mod LexLaws

@@ -131,3 +131,10 @@ pub piece-filled : (what : Option Kind) (text next : List ℕ) → IsPiece what 
 piece-filled None text next (inl b) = omega (arith, ap length b.1)
 piece-filled None text next (inr m) = let f = comment-first text next m in omega (arith, ap length f.1)
 piece-filled (Some k) text next t = spelled-filled k text next t.spelled
+
+-- each piece leaves less of the text
+pub piece-shrinks : (bytes rest : List ℕ) (what : Option Kind) → piece_at bytes ≡ Some (what, rest) → length rest < length bytes
+piece-shrinks bytes rest what e =
+    let f = piece-sound bytes rest what e in
+    let l : 0 < length f.0 = piece-filled what f.0 rest f.2 in
+    omega (arith, ap length f.1, length-append f.0 rest)

@@ -1,8 +1,11 @@
 -- The tokens of a text, and the place at which a text has none.
-use Rattle.std.specs.Prelude.{◌≡◌, ◌≢◌, ◌≤◌, ◌<◌, ◌+◌, ◌-◌, ℕ, ◌==◌, List, [], ◌∷◌, ◌++◌, length, take, drop, Option, Some, None, count_by}
+use Rattle.std.specs.Prelude.{◌≡◌, ◌≢◌, ◌≤◌, ◌<◌, ◌+◌, ◌-◌, ℕ, ◌==◌, ◌⊎◌, List, [], ◌∷◌, ◌++◌, length, take, drop, Option, Some, None, Result, MatchResult, count_by}
 use Rattle.std.specs.List.{slice_range}
 use Rattle.idl_lexer.specs.declared.token.Kind.{Kind}
 use Rattle.idl_lexer.specs.declared.token.Token.{Token}
+use Rattle.idl_lexer.specs.declared.token.Tokens.{Tokens}
+use Rattle.idl_lexer.specs.declared.token.LexError.{LexError}
+use Rattle.idl_lexer.specs.declared.token.LexError.TheVariants as fault
 use Rattle.idl_lexer.specs.Pieces.{Piece, IsPiece, text_of, IsChain}
 
 -- the line of what stands behind these bytes: one more than their line feeds
@@ -48,3 +51,23 @@ spelling_of text token = slice_range text token.start token.end
 abbrev pub StandInOrder : ℕ → List Token → ℕ → Type 0
 StandInOrder from [] to = from ≤ to
 StandInOrder from (t ∷ ts) to = (from ≤ t.start) × (t.start < t.end) × StandInOrder t.end ts to
+
+-- the text has tokens or a place at which it has none, never both, and never two lists or two places
+pub record HasOneReading (text : List ℕ) : Type 0 where
+  pub one_list : (ts us : List Token) → AreTokens text ts → AreTokens text us → ts ≡ us
+  pub one_place : (m n : ℕ) → IsNoToken text m → IsNoToken text n → m ≡ n
+  pub not_both : (ts : List Token) (n : ℕ) → AreTokens text ts → IsNoToken text n → ⊥
+  pub either : ((ts : List Token) × AreTokens text ts) ⊎ ((n : ℕ) × IsNoToken text n)
+
+-- P of the place and of its line, where the error names them
+abbrev pub IfAt : LexError → (ℕ → ℕ → Type 0) → Type 0
+IfAt (fault.At at line) P = P at line
+IfAt fault.Memory P = Unit {0}
+
+-- where the text has tokens, these are the answer, unless memory runs out
+abbrev pub IsGiven : List ℕ → Result Tokens LexError → Type 0
+IsGiven text answer = (ts : List Token) → AreTokens text ts → MatchResult answer (λ t. t.list ≡ ts) (λ e. e ≡ fault.Memory)
+
+-- these tokens are those of the text beside them
+abbrev pub AreLawful : Tokens → Type 0
+AreLawful tokens = AreTokens tokens.source tokens.list

@@ -5,8 +5,11 @@
 #![tactic(auto)]
 
 mod class;
+mod lexer;
 mod part;
+mod piece;
 mod spelling;
 mod token;
 
-pub use token::{Kind, Token};
+pub use lexer::{MAX_SOURCE, lex};
+pub use token::{Kind, LexError, Token, Tokens};

@@ -1,3 +1,8 @@
+ghost use Rattle.std.specs.Prelude.{◌≡◌};
+
+use thiserror::Error;
+use xp_base::{Bytes, List, Memory};
+
 /// What a token is.
 #[derive(Clone, Copy, Debug, PartialEq, Eq)]
 pub enum Kind {
@@ -29,4 +34,32 @@ pub struct Token {
     pub end: u32,
     /// The line of its first byte, from 1. Only a line feed ends a line.
     pub line: u32,
+}
+
+/// A text and its tokens, in order.
+#[derive(Debug, Drop)]
+pub struct Tokens {
+    pub source: Bytes,
+    pub list: List<Token>,
+}
+
+/// Why there are no tokens.
+#[derive(Debug, Drop, Error)]
+pub enum LexError {
+    /// No piece begins at the byte `at`, counted from 0, which is on the line `line`, counted from 1.
+    #[error("At")]
+    At { at: u32, line: u32 },
+    /// There was no memory.
+    #[error("Memory")]
+    Memory,
+}
+
+impl From<Memory> for LexError {
+    ghost use Rattle.idl_lexer.specs.declared.token.LexError.TheVariants as fault;
+
+    ghost from_gives = { λ _ e. e ≡ fault.Memory };
+
+    fn from(_: Memory) -> LexError {
+        LexError::Memory
+    }
 }
