@@ -1,12 +1,15 @@
 -- How far a text was read: a chain of pieces, the tokens among them, and what is left.
 use Rattle.std.proofs.Common.{◌≡◌, ◌≢◌, ◌≤◌, ◌<◌, ◌+◌, ◌-◌, ℕ, zero, suc, Bool, true, false, cond, ◌⊎◌, inl, inr, List, [], ◌∷◌, ◌++◌, length, take, drop, Option, Some, None, refl, sym, ◌∙◌, ap, subst, arith, append_assoc, append-nil, length-append, add_assoc, count_by}
-use Rattle.std.specs.Prelude.{◌==◌}
+use Rattle.std.specs.Prelude.{◌==◌, Result, Err, MatchResult}
 use Rattle.std.proofs.lemmas.List.{take_at}
 use Rattle.std.proofs.lemmas.List.Sums.{sum_by-append, count_by-le-length}
 use Rattle.idl_lexer.specs.declared.token.Kind.{Kind}
 use Rattle.idl_lexer.specs.declared.token.Token.{Token}
 use Rattle.idl_lexer.specs.Pieces.{Piece, IsPiece, text_of, IsChain}
-use Rattle.idl_lexer.specs.Tokens.{tokens_behind, with_token, AreTokens, IsStuck, IsNoToken, StandInOrder, line_behind, HasOneReading, IsGiven}
+use Rattle.idl_lexer.specs.Tokens.{tokens_behind, with_token, AreTokens, IsStuck, IsNoToken, StandInOrder, line_behind, HasOneReading, IsGiven, IfAt}
+use Rattle.idl_lexer.specs.declared.token.Tokens.{Tokens}
+use Rattle.idl_lexer.specs.declared.token.LexError.{LexError}
+use Rattle.idl_lexer.specs.declared.token.LexError.TheVariants as fault
 use Rattle.idl_lexer.specs.Reading.{piece_at}
 use Rattle.idl_lexer.proofs.PieceLaws.{piece-sound, piece-filled}
 use Rattle.idl_lexer.proofs.ChainLaws.{none-stuck, one_list, one_place, not_both, either}
@@ -19,7 +22,7 @@ pub record IsReadTo (text : List ℕ) (list : List Token) (rest : List ℕ) (lin
   pub among : list ≡ tokens_behind [] pieces
   pub on_line : line ≡ line_behind (text_of pieces)
 
-pub feeds : List ℕ → ℕ
+unfoldable pub feeds : List ℕ → ℕ
 feeds text = count_by (λ c. c == 10) text
 
 -- ---- a chain that goes on by a piece
@@ -67,7 +70,7 @@ read-line text list rest line r =
     omega (arith, r.on_line, ap length r.whole, length-append (text_of r.pieces) rest, count_by-le-length (λ c. c == 10) (text_of r.pieces))
 
 -- the text of the piece that leaves `next` of `rest`
-pub piece_text : List ℕ → List ℕ → List ℕ
+unfoldable pub piece_text : List ℕ → List ℕ → List ℕ
 piece_text rest next = take (length rest - length next) rest
 
 piece_text-front : (text next : List ℕ) → piece_text (text ++ next) next ≡ text
@@ -97,7 +100,7 @@ pub read-blank : (text : List ℕ) (list : List Token) (rest : List ℕ) (line :
 read-blank text list rest line next r e =
     subst (λ ts. IsReadTo text ts next (line + feeds (piece_text rest next))) (append-nil list) (read-more text list rest line None next r e)
 
-pub token_from : Kind → ℕ → ℕ → ℕ → Token
+unfoldable pub token_from : Kind → ℕ → ℕ → ℕ → Token
 token_from what start end line = record { kind = what; start = start; end = end; line = line }
 
 read-token-at : (text : List ℕ) (list : List Token) (rest : List ℕ) (line : ℕ) (what : Kind) (next : List ℕ) → (r : IsReadTo text list rest line)
@@ -164,3 +167,28 @@ tokens-in_order text list a =
 
 pub one_reading : (text : List ℕ) → HasOneReading text
 one_reading text = record { one_list = one_list text; one_place = one_place text; not_both = not_both text; either = either text }
+
+pub not_empty : (rest : List ℕ) (b : Bool) → b ≡ (length rest == 0) → b ≡ false → rest ≢ []
+not_empty [] b e f = λ h. cc
+not_empty (c ∷ cs) b e f = λ h. cc
+
+-- an error other than want of memory comes only where there are no tokens
+pub only_memory : (text : List ℕ) (e : LexError) → IfAt e (λ at line. IsNoToken text at × (line ≡ line_behind (take at text))) → (ts : List Token) → AreTokens text ts → e ≡ fault.Memory
+only_memory text (fault.At at line) h ts a = absurd (not_both text ts at a h.0)
+only_memory text fault.Memory h ts a = refl
+
+pub memory_given : (text : List ℕ) (answer : Result Tokens LexError) (e : LexError) → answer ≡ Err e
+    → IfAt e (λ at line. IsNoToken text at × (line ≡ line_behind (take at text))) → IsGiven text answer
+memory_given text answer e same h = λ ts a. rw same (only_memory text e h ts a)
+
+-- ---- a turn of the loop
+
+pub token-turn : (text : List ℕ) (list : List Token) (rest : List ℕ) (line : ℕ) (k : Option Kind) (what : Kind) (next : List ℕ) (start end count : ℕ) (new : List Token)
+    → IsReadTo text list rest line → piece_at rest ≡ Some (k, next) → k ≡ Some what → start ≡ length text - length rest → end ≡ length text - length next
+    → count ≡ feeds (piece_text rest next) → new ≡ list ++ token_from what start end line ∷ [] → IsReadTo text new next (line + count)
+token-turn text list rest line k what next start end count new r e is s t n w =
+    rw (w, s, t, n) (read-token text list rest line what next r (rw is at e))
+
+pub blank-turn : (text : List ℕ) (list : List Token) (rest : List ℕ) (line : ℕ) (k : Option Kind) (next : List ℕ) (count : ℕ) (new : List Token)
+    → IsReadTo text list rest line → piece_at rest ≡ Some (k, next) → k ≡ None → count ≡ feeds (piece_text rest next) → new ≡ list → IsReadTo text new next (line + count)
+blank-turn text list rest line k next count new r e is n w = rw (w, n) (read-blank text list rest line next r (rw is at e))
