@@ -21,27 +21,27 @@ pub listed : (P : ℕ → Type 0) (xs : List ℕ) (c : ℕ) → Each P xs → li
 listed P [] c each e = cc
 listed P (x ∷ xs) c each e =
     by_test (x == c) refl (listed P xs c each.1) where
-  by_test : (t : Bool) → (x == c) ≡ t → (list_any (λ x. x == c) xs ≡ true → P c) → P c
-  by_test true q more = subst P ((Decides-eqb x c).0 q) each.0
-  by_test false q more = more (rw q at e)
+      by_test : (t : Bool) → (x == c) ≡ t → (list_any (λ x. x == c) xs ≡ true → P c) → P c
+      by_test true q more = subst P ((Decides-eqb x c).0 q) each.0
+      by_test false q more = more (rw q at e)
 
 pub listed_test : (p : ℕ → Bool) (xs : List ℕ) (c : ℕ) → list_all p xs ≡ true → list_any (λ x. x == c) xs ≡ true → p c ≡ true
 listed_test p [] c all e = cc
 listed_test p (x ∷ xs) c all e =
     let a = both_true (p x) (list_all p xs) all in
     by_test (x == c) refl a.0 (listed_test p xs c a.1) where
-  by_test : (t : Bool) → (x == c) ≡ t → p x ≡ true → (list_any (λ x. x == c) xs ≡ true → p c ≡ true) → p c ≡ true
-  by_test true q here more = subst (λ y. p y ≡ true) ((Decides-eqb x c).0 q) here
-  by_test false q here more = more (rw q at e)
+      by_test : (t : Bool) → (x == c) ≡ t → p x ≡ true → (list_any (λ x. x == c) xs ≡ true → p c ≡ true) → p c ≡ true
+      by_test true q here more = subst (λ y. p y ≡ true) ((Decides-eqb x c).0 q) here
+      by_test false q here more = more (rw q at e)
 
 pub listed_text : (p : List ℕ → Bool) (xs : List (List ℕ)) (text : List ℕ) → list_all p xs ≡ true → list_any (λ x. bytes_eq x text) xs ≡ true → p text ≡ true
 listed_text p [] text all e = cc
 listed_text p (x ∷ xs) text all e =
     let a = both_true (p x) (list_all p xs) all in
     by_test (bytes_eq x text) refl a.0 (listed_text p xs text a.1) where
-  by_test : (t : Bool) → bytes_eq x text ≡ t → p x ≡ true → (list_any (λ x. bytes_eq x text) xs ≡ true → p text ≡ true) → p text ≡ true
-  by_test true q here more = subst (λ y. p y ≡ true) ((bytes_eq-Decides x text).0 q) here
-  by_test false q here more = more (rw q at e)
+      by_test : (t : Bool) → bytes_eq x text ≡ t → p x ≡ true → (list_any (λ x. bytes_eq x text) xs ≡ true → p text ≡ true) → p text ≡ true
+      by_test true q here more = subst (λ y. p y ≡ true) ((bytes_eq-Decides x text).0 q) here
+      by_test false q here more = more (rw q at e)
 
 pub gap-unnamed : (b : ℕ) → is_in Gap b ≡ true → is_in NameByte b ≡ false
 unfolding is_in

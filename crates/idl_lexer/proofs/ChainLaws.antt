@@ -62,9 +62,13 @@ abbrev Reaches : List ℕ → Type 0
 Reaches bytes = (ps : List Piece) × (rest : List ℕ) × (bytes ≡ text_of ps ++ rest) × IsChain ps rest × (piece_at rest ≡ None)
 
 reaches-more : (what : Option Kind) (text left bytes : List ℕ) → bytes ≡ text ++ left → IsPiece what text left → Reaches left → Reaches bytes
-reaches-more what text left bytes e p r =
-    (record { kind = what; text = text } ∷ r.0, r.1, e ∙ ap (λ xs. text ++ xs) r.2 ∙ sym (append_assoc text (text_of r.0) r.1),
-    (subst (λ xs. IsPiece what text xs) r.2 p, r.3), r.4)
+reaches-more what text left bytes e p r = (
+  record { kind = what; text = text } ∷ r.0,
+  r.1,
+  e ∙ ap (λ xs. text ++ xs) r.2 ∙ sym (append_assoc text (text_of r.0) r.1),
+  (subst (λ xs. IsPiece what text xs) r.2 p, r.3),
+  r.4,
+)
 
 reaches : (n : ℕ) (bytes : List ℕ) → length bytes ≤ n → Reaches bytes
 reaches zero [] h = ([], [], refl, tt, piece-at-end)
@@ -73,10 +77,10 @@ reaches (suc n) bytes h = by_answer (piece_at bytes) refl (λ left l. reaches n 
   by_answer : (o : Option (Option Kind × List ℕ)) → piece_at bytes ≡ o → ((left : List ℕ) → length left ≤ n → Reaches left) → Reaches bytes
   by_answer None e more = ([], bytes, refl, tt, e)
   by_answer (Some p) e more =
-    let f = piece-sound bytes p.1 p.0 e in
-    let l : 0 < length f.0 = piece-filled p.0 f.0 p.1 f.2 in
-    let shorter : length p.1 ≤ n = omega (arith, ap length f.1, length-append f.0 p.1) in
-    reaches-more p.0 f.0 p.1 bytes f.1 f.2 (more p.1 shorter)
+      let f = piece-sound bytes p.1 p.0 e in
+      let l : 0 < length f.0 = piece-filled p.0 f.0 p.1 f.2 in
+      let shorter : length p.1 ≤ n = omega (arith, ap length f.1, length-append f.0 p.1) in
+      reaches-more p.0 f.0 p.1 bytes f.1 f.2 (more p.1 shorter)
 
 -- ---- the tokens and the place
 
@@ -107,4 +111,4 @@ either text = of_reached (reaches (length text) text (omega arith)) where
   of_reached : Reaches text → ((ts : List Token) × AreTokens text ts) ⊎ ((n : ℕ) × IsNoToken text n)
   of_reached (ps, [], e, c, n) = inl (tokens_behind [] ps, record { pieces = ps; whole = e ∙ append-nil (text_of ps); chain = c; among = refl })
   of_reached (ps, b ∷ bs, e, c, n) =
-    inr (length (text_of ps), record { pieces = ps; rest = b ∷ bs; whole = e; chain = c; reached = refl; stuck = none-stuck (b ∷ bs) (λ same. cc) n })
+      inr (length (text_of ps), record { pieces = ps; rest = b ∷ bs; whole = e; chain = c; reached = refl; stuck = none-stuck (b ∷ bs) (λ same. cc) n })

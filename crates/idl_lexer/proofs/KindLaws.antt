@@ -121,7 +121,7 @@ pub number-reads : (bytes rest : List ℕ) → after_number bytes ≡ Some rest
 unfolding after_number
 number-reads bytes rest e = of_either (either_of (after hexadecimal bytes) (after decimal bytes) rest e) where
   of_either : (after hexadecimal bytes ≡ Some rest) ⊎ ((after hexadecimal bytes ≡ None) × (after decimal bytes ≡ Some rest))
-    → (text : List ℕ) × (bytes ≡ text ++ rest) × (IsMadeOf hexadecimal text ⊎ IsMadeOf decimal text)
+      → (text : List ℕ) × (bytes ≡ text ++ rest) × (IsMadeOf hexadecimal text ⊎ IsMadeOf decimal text)
   of_either (inl h) = let r = parts-read hexadecimal bytes rest h in (r.0, r.1, inl r.2)
   of_either (inr h) = let r = parts-read decimal bytes rest h.1 in (r.0, r.1, inr r.2)
 
@@ -176,9 +176,9 @@ code-reads bytes rest e =
     let b = block-reads bytes m.0 m.1 in
     let l = language-reads m.0 in
     (b.0 ++ l.0, b.1 ∙ ap (λ xs. b.0 ++ xs) (l.1 ∙ ap (λ xs. l.0 ++ xs) m.2) ∙ sym (append_assoc b.0 l.0 rest), code b.0 l.0 b.2 l.2) where
-  code : (block more : List ℕ) → IsBlock block → (more ≡ []) ⊎ IsMadeOf language more → IsCode (block ++ more)
-  code block more b (inl n) = inl (rw (n, append-nil) b)
-  code block more b (inr l) = inr (block, more, refl, b, l)
+      code : (block more : List ℕ) → IsBlock block → (more ≡ []) ⊎ IsMadeOf language more → IsCode (block ++ more)
+      code block more b (inl n) = inl (rw (n, append-nil) b)
+      code block more b (inr l) = inr (block, more, refl, b, l)
 
 without-shorter : (bytes : List ℕ) → length (without_language bytes) ≤ length bytes
 without-shorter bytes = let l = language-reads bytes in omega (arith, ap length l.1, length-append l.0 (without_language bytes))
@@ -202,10 +202,10 @@ mark-reads [] rest e = cc
 mark-reads (c ∷ []) rest e = let g = guarded (is_in Single c) [] rest e in (c ∷ [], ap (λ xs. c ∷ xs) g.1, g.0)
 mark-reads (c ∷ d ∷ more) rest e =
     of_test (chosen (is_in Single c) (Some (d ∷ more)) (cond ((c == d) && (c == 60 || c == 62)) (Some more) None) (Some rest) e) where
-  of_test : ((is_in Single c ≡ true) × (Some (d ∷ more) ≡ Some rest)) ⊎ ((is_in Single c ≡ false) × (cond ((c == d) && (c == 60 || c == 62)) (Some more) None ≡ Some rest))
-    → (text : List ℕ) × (c ∷ d ∷ more ≡ text ++ rest) × (is_mark text ≡ true)
-  of_test (inl p) = let r : d ∷ more ≡ rest = cc in (c ∷ [], ap (λ xs. c ∷ xs) r, p.0)
-  of_test (inr p) = let g = guarded ((c == d) && (c == 60 || c == 62)) more rest p.1 in (c ∷ d ∷ [], ap (λ xs. c ∷ d ∷ xs) g.1, g.0)
+      of_test : ((is_in Single c ≡ true) × (Some (d ∷ more) ≡ Some rest)) ⊎ ((is_in Single c ≡ false) × (cond ((c == d) && (c == 60 || c == 62)) (Some more) None ≡ Some rest))
+          → (text : List ℕ) × (c ∷ d ∷ more ≡ text ++ rest) × (is_mark text ≡ true)
+      of_test (inl p) = let r : d ∷ more ≡ rest = cc in (c ∷ [], ap (λ xs. c ∷ xs) r, p.0)
+      of_test (inr p) = let g = guarded ((c == d) && (c == 60 || c == 62)) more rest p.1 in (c ∷ d ∷ [], ap (λ xs. c ∷ d ∷ xs) g.1, g.0)
 
 -- two marks of one byte are no mark of two
 doubled-no_single : (c d : ℕ) → is_mark (c ∷ d ∷ []) ≡ true → is_in Single c ≡ false

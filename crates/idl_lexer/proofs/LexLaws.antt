@@ -1,12 +1,15 @@
 -- How far a text was read: a chain of pieces, the tokens among them, and what is left.
 use Rattle.std.proofs.Common.{◌≡◌, ◌≢◌, ◌≤◌, ◌<◌, ◌+◌, ◌-◌, ℕ, zero, suc, Bool, true, false, cond, ◌⊎◌, inl, inr, List, [], ◌∷◌, ◌++◌, length, take, drop, Option, Some, None, refl, sym, ◌∙◌, ap, subst, arith, append_assoc, append-nil, length-append, add_assoc, count_by}
 use Rattle.std.specs.Prelude.{◌==◌, Result, Err, MatchResult}
-use Rattle.std.proofs.lemmas.List.{take_at}
+use Rattle.std.proofs.lemmas.List.{take_at, drop_at}
 use Rattle.std.proofs.lemmas.List.Sums.{sum_by-append, count_by-le-length}
+use Rattle.std.proofs.lemmas.List.Elements.{All-nil, All-cons}
+use Rattle.std.specs.List.{All}
 use Rattle.idl_lexer.specs.declared.token.Kind.{Kind}
 use Rattle.idl_lexer.specs.declared.token.Token.{Token}
 use Rattle.idl_lexer.specs.Pieces.{Piece, IsPiece, text_of, IsChain}
-use Rattle.idl_lexer.specs.Tokens.{tokens_behind, with_token, AreTokens, IsStuck, IsNoToken, StandInOrder, line_behind, HasOneReading, IsGiven, IfAt}
+use Rattle.idl_lexer.specs.Tokens.{tokens_behind, with_token, AreTokens, IsStuck, IsNoToken, StandInOrder, line_behind, HasOneReading, IsGiven, IfAt, IsTokenOf}
+use Rattle.idl_lexer.specs.Spelling.{IsToken}
 use Rattle.idl_lexer.specs.declared.token.Tokens.{Tokens}
 use Rattle.idl_lexer.specs.declared.token.LexError.{LexError}
 use Rattle.idl_lexer.specs.declared.token.LexError.TheVariants as fault
@@ -84,16 +87,16 @@ read-more text list rest line what next r e =
     let f = piece-sound rest next what e in
     let front : f.0 ≡ piece_text rest next = sym (ap (λ xs. piece_text xs next) f.1 ∙ piece_text-front f.0 next) in
     subst (λ t. IsReadTo text (list ++ with_token (text_of r.pieces) what t []) next (line + feeds t)) front (of_text f.0 f.1 f.2) where
-  of_text : (t : List ℕ) → rest ≡ t ++ next → IsPiece what t next → IsReadTo text (list ++ with_token (text_of r.pieces) what t []) next (line + feeds t)
-  of_text t same p =
-    let more = text_of-more r.pieces (record { kind = what; text = t }) in
-    record {
-      pieces = r.pieces ++ record { kind = what; text = t } ∷ [];
-      whole = r.whole ∙ ap (λ xs. text_of r.pieces ++ xs) same ∙ sym (append_assoc (text_of r.pieces) t next) ∙ ap (λ xs. xs ++ next) (sym more);
-      chain = chain-more r.pieces (record { kind = what; text = t }) next (subst (λ xs. IsChain r.pieces xs) same r.chain) p;
-      among = ap (λ ts. ts ++ with_token (text_of r.pieces) what t []) r.among ∙ sym (tokens_behind-more [] r.pieces (record { kind = what; text = t }));
-      on_line = ap (λ n. n + feeds t) r.on_line ∙ sym (line_behind-append (text_of r.pieces) t) ∙ ap line_behind (sym more)
-    }
+      of_text : (t : List ℕ) → rest ≡ t ++ next → IsPiece what t next → IsReadTo text (list ++ with_token (text_of r.pieces) what t []) next (line + feeds t)
+      of_text t same p =
+          let more = text_of-more r.pieces (record { kind = what; text = t }) in
+          record {
+            pieces = r.pieces ++ record { kind = what; text = t } ∷ [];
+            whole = r.whole ∙ ap (λ xs. text_of r.pieces ++ xs) same ∙ sym (append_assoc (text_of r.pieces) t next) ∙ ap (λ xs. xs ++ next) (sym more);
+            chain = chain-more r.pieces (record { kind = what; text = t }) next (subst (λ xs. IsChain r.pieces xs) same r.chain) p;
+            among = ap (λ ts. ts ++ with_token (text_of r.pieces) what t []) r.among ∙ sym (tokens_behind-more [] r.pieces (record { kind = what; text = t }));
+            on_line = ap (λ n. n + feeds t) r.on_line ∙ sym (line_behind-append (text_of r.pieces) t) ∙ ap line_behind (sym more);
+          }
 
 pub read-blank : (text : List ℕ) (list : List Token) (rest : List ℕ) (line : ℕ) (next : List ℕ) → IsReadTo text list rest line → piece_at rest ≡ Some (None, next)
     → IsReadTo text list next (line + feeds (piece_text rest next))
@@ -112,12 +115,12 @@ read-token-at text list rest line what next r e =
     let front : piece_text rest next ≡ f.0 = ap (λ xs. piece_text xs next) f.1 ∙ piece_text-front f.0 next in
     let here : length text - length rest ≡ length (text_of r.pieces) = omega (arith, ap length r.whole, length-append (text_of r.pieces) rest) in
     let there : length text - length next ≡ length (text_of r.pieces) + length (piece_text rest next) =
-        omega (arith, ap length r.whole, length-append (text_of r.pieces) rest, ap length f.1, length-append f.0 next, ap length front) in
+    omega (arith, ap length r.whole, length-append (text_of r.pieces) rest, ap length f.1, length-append f.0 next, ap length front) in
     let same : token_from what (length (text_of r.pieces)) (length (text_of r.pieces) + length (piece_text rest next)) (line_behind (text_of r.pieces))
-        ≡ token_from what (length text - length rest) (length text - length next) line =
-        ap (λ n. token_from what n (length (text_of r.pieces) + length (piece_text rest next)) (line_behind (text_of r.pieces))) (sym here)
-        ∙ ap (λ n. token_from what (length text - length rest) n (line_behind (text_of r.pieces))) (sym there)
-        ∙ ap (λ n. token_from what (length text - length rest) (length text - length next) n) (sym r.on_line) in
+    ≡ token_from what (length text - length rest) (length text - length next) line =
+    ap (λ n. token_from what n (length (text_of r.pieces) + length (piece_text rest next)) (line_behind (text_of r.pieces))) (sym here)
+    ∙ ap (λ n. token_from what (length text - length rest) n (line_behind (text_of r.pieces))) (sym there)
+    ∙ ap (λ n. token_from what (length text - length rest) (length text - length next) n) (sym r.on_line) in
     ap (λ t. t ∷ []) same
 
 pub read-token : (text : List ℕ) (list : List Token) (rest : List ℕ) (line : ℕ) (what : Kind) (next : List ℕ) → IsReadTo text list rest line
@@ -137,9 +140,10 @@ pub read-stuck : (text : List ℕ) (list : List Token) (rest : List ℕ) (line :
 read-stuck text list rest line r h e =
     let here : length text - length rest ≡ length (text_of r.pieces) = omega (arith, ap length r.whole, length-append (text_of r.pieces) rest) in
     let before : take (length text - length rest) text ≡ text_of r.pieces =
-        ap (λ xs. take (length text - length rest) xs) r.whole ∙ take_at (text_of r.pieces) rest _ (sym here) in
-    (record { pieces = r.pieces; rest = rest; whole = r.whole; chain = r.chain; reached = here; stuck = none-stuck rest h e },
-    r.on_line ∙ ap line_behind (sym before))
+    ap (λ xs. take (length text - length rest) xs) r.whole ∙ take_at (text_of r.pieces) rest _ (sym here) in (
+      record { pieces = r.pieces; rest = rest; whole = r.whole; chain = r.chain; reached = here; stuck = none-stuck rest h e },
+      r.on_line ∙ ap line_behind (sym before),
+    )
 
 -- ---- the tokens stand in order
 
@@ -192,3 +196,39 @@ token-turn text list rest line k what next start end count new r e is s t n w =
 pub blank-turn : (text : List ℕ) (list : List Token) (rest : List ℕ) (line : ℕ) (k : Option Kind) (next : List ℕ) (count : ℕ) (new : List Token)
     → IsReadTo text list rest line → piece_at rest ≡ Some (k, next) → k ≡ None → count ≡ feeds (piece_text rest next) → new ≡ list → IsReadTo text new next (line + count)
 blank-turn text list rest line k next count new r e is n w = rw (w, n) (read-blank text list rest line next r (rw is at e))
+
+-- ---- each token
+
+each-token : (before text next : List ℕ) (what : Kind) → IsToken what text next
+    → IsTokenOf (before ++ (text ++ next)) (token_from what (length before) (length before + length text) (line_behind before))
+unfolding token_from
+each-token before text next what t =
+    let start : drop (length before) (before ++ (text ++ next)) ≡ text ++ next = drop_at before (text ++ next) _ refl in
+    let size : length before + length text - length before ≡ length text = omega arith in
+    let spelling : take (length before + length text - length before) (drop (length before) (before ++ (text ++ next))) ≡ text =
+    ap (λ xs. take (length before + length text - length before) xs) start ∙ take_at text next _ (sym size) in
+    let behind : drop (length before + length text) (before ++ (text ++ next)) ≡ next =
+    ap (λ xs. drop (length before + length text) xs) (sym (append_assoc before text next)) ∙ drop_at (before ++ text) next _ (length-append before text) in
+    let front : take (length before) (before ++ (text ++ next)) ≡ before = take_at before (text ++ next) _ refl in
+    record {
+      spelled = rw (spelling, behind) t;
+      on_line = ap line_behind (sym front);
+    }
+
+each-more : (text before : List ℕ) (what : Option Kind) (piece next : List ℕ) (ts : List Token) → text ≡ before ++ (piece ++ next) → IsPiece what piece next
+    → All (IsTokenOf text) ts → All (IsTokenOf text) (with_token before what piece ts)
+unfolding token_from
+each-more text before None piece next ts e p h = h
+each-more text before (Some k) piece next ts e p h = All-cons (IsTokenOf text) _ ts (subst (λ xs. IsTokenOf xs (token_from k (length before) (length before + length piece) (line_behind before))) (sym e) (each-token before piece next k p)) h
+
+chain-each : (text before : List ℕ) (ps : List Piece) (rest : List ℕ) → text ≡ before ++ (text_of ps ++ rest) → IsChain ps rest → All (IsTokenOf text) (tokens_behind before ps)
+chain-each text before [] rest e c = All-nil (IsTokenOf text)
+chain-each text before (p ∷ ps) rest e c =
+    let here : text ≡ before ++ (p.text ++ (text_of ps ++ rest)) = e ∙ ap (λ xs. before ++ xs) (append_assoc p.text (text_of ps) rest) in
+    each-more text before p.kind p.text (text_of ps ++ rest) (tokens_behind (before ++ p.text) ps) here c.0
+    (chain-each text (before ++ p.text) ps rest (here ∙ sym (append_assoc before p.text (text_of ps ++ rest))) c.1)
+
+pub tokens-each : (text : List ℕ) (list : List Token) → AreTokens text list → All (IsTokenOf text) list
+tokens-each text list a =
+    subst (λ ts. All (IsTokenOf text) ts) (sym a.among)
+    (chain-each text [] a.pieces [] (a.whole ∙ sym (append-nil (text_of a.pieces))) a.chain)

@@ -34,6 +34,7 @@ not-held : (a b c d : ℕ) (body more rest : List ℕ) → (c == a && d == b) �
 not-held a b c d body more rest t e n h = by_head (holds-head a b c body h.0 h.1 h.2) where
   first : {xs : List ℕ} → body ≡ b ∷ xs → d ≡ b
   first {xs} s = let m : d ∷ more ≡ (b ∷ xs) ++ (a ∷ b ∷ []) ++ rest = e ∙ ap (λ zs. zs ++ (a ∷ b ∷ []) ++ rest) s in cc
+
   by_head : ((c ≡ a) × (body ≡ b ∷ h.1)) ⊎ Holds body (a ∷ b ∷ []) → ⊥
   by_head (inl p) = is_no_pair a b c d t p.0 (first p.1)
   by_head (inr k) = n k
@@ -45,11 +46,12 @@ pair-reads a b (c ∷ []) rest e = cc
 pair-reads a b (c ∷ d ∷ more) rest e =
     let t = chosen (c == a && d == b) (Some more) (after_pair a b (d ∷ more)) (Some rest) e in
     elim t [ inl p ↦ here p.0 p.1 | inr p ↦ (later p.0 (pair-reads a b (d ∷ more) rest p.1)) ] where
-  here : (c == a && d == b) ≡ true → Some more ≡ Some rest → (body : List ℕ) × (c ∷ d ∷ more ≡ body ++ (a ∷ b ∷ []) ++ rest) × (Holds body (a ∷ b ∷ []) → ⊥)
-  here t m = let p = is_pair a b c d t in ([], consed c a (d ∷ more) (b ∷ rest) p.0 (consed d b more rest p.1 (cc)), none-held a b)
-  later : (c == a && d == b) ≡ false → ((body : List ℕ) × (d ∷ more ≡ body ++ (a ∷ b ∷ []) ++ rest) × (Holds body (a ∷ b ∷ []) → ⊥))
-    → (body : List ℕ) × (c ∷ d ∷ more ≡ body ++ (a ∷ b ∷ []) ++ rest) × (Holds body (a ∷ b ∷ []) → ⊥)
-  later t m = (c ∷ m.0, ap (λ xs. c ∷ xs) m.1, not-held a b c d m.0 more rest t m.1 m.2)
+      here : (c == a && d == b) ≡ true → Some more ≡ Some rest → (body : List ℕ) × (c ∷ d ∷ more ≡ body ++ (a ∷ b ∷ []) ++ rest) × (Holds body (a ∷ b ∷ []) → ⊥)
+      here t m = let p = is_pair a b c d t in ([], consed c a (d ∷ more) (b ∷ rest) p.0 (consed d b more rest p.1 (cc)), none-held a b)
+
+      later : (c == a && d == b) ≡ false → ((body : List ℕ) × (d ∷ more ≡ body ++ (a ∷ b ∷ []) ++ rest) × (Holds body (a ∷ b ∷ []) → ⊥))
+          → (body : List ℕ) × (c ∷ d ∷ more ≡ body ++ (a ∷ b ∷ []) ++ rest) × (Holds body (a ∷ b ∷ []) → ⊥)
+      later t m = (c ∷ m.0, ap (λ xs. c ∷ xs) m.1, not-held a b c d m.0 more rest t m.1 m.2)
 
 at-pair : (a b c d : ℕ) (more : List ℕ) → c ≡ a → d ≡ b → after_pair a b (c ∷ d ∷ more) ≡ Some more
 at-pair a b c d more p q = rw (p, q, eq-eqb a a refl, eq-eqb b b refl) refl

@@ -41,7 +41,7 @@ comment-reads : (bytes rest : List ℕ) → after_comment bytes ≡ Some rest �
 unfolding after_comment
 comment-reads bytes rest e = of_either (either_of (after line_comment bytes) (option_and_then (after_pair 42 47) (after_literal (codes "/*") bytes)) rest e) where
   of_either : (after line_comment bytes ≡ Some rest) ⊎ ((after line_comment bytes ≡ None) × (option_and_then (after_pair 42 47) (after_literal (codes "/*") bytes) ≡ Some rest))
-    → (text : List ℕ) × (bytes ≡ text ++ rest) × IsComment text rest
+      → (text : List ℕ) × (bytes ≡ text ++ rest) × IsComment text rest
   of_either (inl p) = let r = line-reads bytes rest p in (r.0, r.1, inl (r.2, r.3))
   of_either (inr p) = let r = enclosed-reads (codes "/*") 42 47 bytes rest p.1 in (r.0, r.1, inr r.2)
 
@@ -78,20 +78,23 @@ piece-sound [] rest what e = cc
 piece-sound (c ∷ cs) rest what e =
     by_cond (is_in Blank c) _ _ _ (IsFound (c ∷ cs) what rest) e blank
     (λ e. by_cond (c == 47) _ _ _ (IsFound (c ∷ cs) what rest) e comment token) where
-  moved : (k : Option Kind) (left : List ℕ) → pair k left ≡ pair what rest → IsFound (c ∷ cs) k left → IsFound (c ∷ cs) what rest
-  moved k left p f = subst (λ q. IsFound (c ∷ cs) q.0 q.1) p f
-  blank : is_in Blank c ≡ true → Some (pair None cs) ≡ Some (pair what rest) → IsFound (c ∷ cs) what rest
-  blank h e = moved None cs (some_alike e) (c ∷ [], refl, inl (c, refl, h))
-  comment : (c == 47) ≡ true → option_map (λ rest. pair None rest) (after_comment (c ∷ cs)) ≡ Some (pair what rest) → IsFound (c ∷ cs) what rest
-  comment h e =
-    let m = mapped (λ rest. pair None rest) (after_comment (c ∷ cs)) (pair what rest) e in
-    let r = comment-reads (c ∷ cs) m.0 m.1 in
-    moved None m.0 m.2 (r.0, r.1, inr r.2)
-  token : option_map (λ (t : Kind × List ℕ). pair (Some t.0) t.1) (token_at (c ∷ cs)) ≡ Some (pair what rest) → IsFound (c ∷ cs) what rest
-  token e =
-    let m = mapped (λ (t : Kind × List ℕ). pair (Some t.0) t.1) (token_at (c ∷ cs)) (pair what rest) e in
-    let r = token-sound (c ∷ cs) m.0.1 m.0.0 m.1 in
-    moved (Some m.0.0) m.0.1 m.2 (r.0, r.1, r.2)
+      moved : (k : Option Kind) (left : List ℕ) → pair k left ≡ pair what rest → IsFound (c ∷ cs) k left → IsFound (c ∷ cs) what rest
+      moved k left p f = subst (λ q. IsFound (c ∷ cs) q.0 q.1) p f
+
+      blank : is_in Blank c ≡ true → Some (pair None cs) ≡ Some (pair what rest) → IsFound (c ∷ cs) what rest
+      blank h e = moved None cs (some_alike e) (c ∷ [], refl, inl (c, refl, h))
+
+      comment : (c == 47) ≡ true → option_map (λ rest. pair None rest) (after_comment (c ∷ cs)) ≡ Some (pair what rest) → IsFound (c ∷ cs) what rest
+      comment h e =
+          let m = mapped (λ rest. pair None rest) (after_comment (c ∷ cs)) (pair what rest) e in
+          let r = comment-reads (c ∷ cs) m.0 m.1 in
+          moved None m.0 m.2 (r.0, r.1, inr r.2)
+
+      token : option_map (λ (t : Kind × List ℕ). pair (Some t.0) t.1) (token_at (c ∷ cs)) ≡ Some (pair what rest) → IsFound (c ∷ cs) what rest
+      token e =
+          let m = mapped (λ (t : Kind × List ℕ). pair (Some t.0) t.1) (token_at (c ∷ cs)) (pair what rest) e in
+          let r = token-sound (c ∷ cs) m.0.1 m.0.0 m.1 in
+          moved (Some m.0.0) m.0.1 m.2 (r.0, r.1, r.2)
 
 at-blank : (c : ℕ) (cs : List ℕ) → is_in Blank c ≡ true → piece_at (c ∷ cs) ≡ Some (None, cs)
 unfolding piece_at
@@ -111,9 +114,9 @@ unfolding piece_at
 at-token [] next k e = none_some (token_at []) (k, next) _ no_token-at-end e
 at-token (c ∷ cs) next k e = by_tests (is_in Blank c) (c == 47) refl refl where
   by_tests : (b s : Bool) → is_in Blank c ≡ b → (c == 47) ≡ s
-    → ◌≡◌ {A = Option (Option Kind × List ℕ)}
-        (cond b (Some (None, cs)) (cond s (option_map (λ rest. (None, rest)) (after_comment (c ∷ cs))) (option_map (λ t. (Some t.0, t.1)) (token_at (c ∷ cs)))))
-        (Some (Some k, next))
+      → ◌≡◌ {A = Option (Option Kind × List ℕ)}
+      (cond b (Some (None, cs)) (cond s (option_map (λ rest. (None, rest)) (after_comment (c ∷ cs))) (option_map (λ t. (Some t.0, t.1)) (token_at (c ∷ cs)))))
+      (Some (Some k, next))
   by_tests true s h q = none_some (token_at (c ∷ cs)) (k, next) _ (no_token-at-blank c cs h) e
   by_tests false true h q = none_some (token_at (c ∷ cs)) (k, next) _ (rw ((Decides-eqb c 47).0 q) (no_token-at-slash cs)) e
   by_tests false false h q = rw e refl

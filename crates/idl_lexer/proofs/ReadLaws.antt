@@ -32,7 +32,7 @@ counted_by_all class zero bytes h = refl
 counted_by_all class (suc count) [] h = absurd (omega arith)
 counted_by_all class (suc count) (c ∷ cs) h = by_test (is_in class c) refl (counted_by_all class count cs (omega arith)) where
   by_test : (t : Bool) → is_in class c ≡ t → after_counted class count cs ≡ cond (list_all (is_in class) (take count cs)) (Some (drop count cs)) None
-    → cond t (after_counted class count cs) None ≡ cond (list_all (is_in class) (take (suc count) (c ∷ cs))) (Some (drop count cs)) None
+      → cond t (after_counted class count cs) None ≡ cond (list_all (is_in class) (take (suc count) (c ∷ cs))) (Some (drop count cs)) None
   by_test true e more = rw e more
   by_test false e more = rw e refl
 

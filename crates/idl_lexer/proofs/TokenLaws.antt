@@ -36,19 +36,24 @@ unfolding name_at
 name-reads bytes rest k e = of_test (chosen (is_key run) (Some (kind.Key, left)) (cond (is_name run) (Some (kind.Word, left)) None) (Some (k, rest)) e) where
   run : List ℕ
   run = front NameByte bytes
+
   left : List ℕ
   left = behind NameByte bytes
+
   key : is_key run ≡ true → IsRead bytes kind.Key left
   key h = (run, front-behind NameByte bytes, ((run, [], sym (append-nil run), front-all NameByte bytes, h, refl), behind-over NameByte bytes))
+
   word : is_word run ≡ true → IsRead bytes kind.Word left
   word h = (run, front-behind NameByte bytes, ((run, [], sym (append-nil run), front-all NameByte bytes, h, refl), behind-over NameByte bytes))
+
   moved : (what : Kind) → IsRead bytes what left → pair what left ≡ pair k rest → IsRead bytes k rest
   moved what r p = subst (λ q. IsRead bytes q.0 q.1) p r
+
   of_test : ((is_key run ≡ true) × (Some (pair kind.Key left) ≡ Some (pair k rest))) ⊎ ((is_key run ≡ false) × (cond (is_name run) (Some (pair kind.Word left)) None ≡ Some (pair k rest)))
-    → IsRead bytes k rest
+      → IsRead bytes k rest
   of_test (inl p) = moved kind.Key (key p.0) (cc)
   of_test (inr p) =
-    let g = guarded (is_name run) (kind.Word, left) (k, rest) p.1 in moved kind.Word (word (tests-word run g.0 p.0)) g.1
+      let g = guarded (is_name run) (kind.Word, left) (k, rest) p.1 in moved kind.Word (word (tests-word run g.0 p.0)) g.1
 
 -- ---- by the first byte
 
@@ -75,23 +80,24 @@ lettered-reads : (bytes rest : List ℕ) (k : Kind) → lettered_at bytes ≡ So
 unfolding lettered_at
 lettered-reads bytes rest k e =
     of_first (either_of (of_kind kind.Iid (after iid bytes)) (option_or (of_kind kind.Native (after native bytes)) (name_at bytes)) (k, rest) e) where
-  of_second : (of_kind kind.Native (after native bytes) ≡ Some (k, rest)) ⊎ ((of_kind kind.Native (after native bytes) ≡ None) × (name_at bytes ≡ Some (k, rest))) → IsRead bytes k rest
-  of_second (inl p) =
-    let o = of_kind-reads kind.Native k (after native bytes) rest p in read-as bytes rest kind.Native k o.1 (parts-read native bytes rest o.0)
-  of_second (inr p) = name-reads bytes rest k p.1
-  of_first : (of_kind kind.Iid (after iid bytes) ≡ Some (k, rest)) ⊎ ((of_kind kind.Iid (after iid bytes) ≡ None) × (option_or (of_kind kind.Native (after native bytes)) (name_at bytes) ≡ Some (k, rest)))
-    → IsRead bytes k rest
-  of_first (inl p) = let o = of_kind-reads kind.Iid k (after iid bytes) rest p in read-as bytes rest kind.Iid k o.1 (iid-reads bytes rest o.0)
-  of_first (inr p) = of_second (either_of (of_kind kind.Native (after native bytes)) (name_at bytes) (k, rest) p.1)
+      of_second : (of_kind kind.Native (after native bytes) ≡ Some (k, rest)) ⊎ ((of_kind kind.Native (after native bytes) ≡ None) × (name_at bytes ≡ Some (k, rest))) → IsRead bytes k rest
+      of_second (inl p) =
+          let o = of_kind-reads kind.Native k (after native bytes) rest p in read-as bytes rest kind.Native k o.1 (parts-read native bytes rest o.0)
+      of_second (inr p) = name-reads bytes rest k p.1
+
+      of_first : (of_kind kind.Iid (after iid bytes) ≡ Some (k, rest)) ⊎ ((of_kind kind.Iid (after iid bytes) ≡ None) × (option_or (of_kind kind.Native (after native bytes)) (name_at bytes) ≡ Some (k, rest)))
+          → IsRead bytes k rest
+      of_first (inl p) = let o = of_kind-reads kind.Iid k (after iid bytes) rest p in read-as bytes rest kind.Iid k o.1 (iid-reads bytes rest o.0)
+      of_first (inr p) = of_second (either_of (of_kind kind.Native (after native bytes)) (name_at bytes) (k, rest) p.1)
 
 numbered-reads : (bytes rest : List ℕ) (k : Kind) → numbered_at bytes ≡ Some (k, rest) → IsRead bytes k rest
 unfolding numbered_at
 numbered-reads bytes rest k e = of_first (either_of (of_kind kind.Iid (after iid bytes)) (of_kind kind.Number (after_number bytes)) (k, rest) e) where
   of_first : (of_kind kind.Iid (after iid bytes) ≡ Some (k, rest)) ⊎ ((of_kind kind.Iid (after iid bytes) ≡ None) × (of_kind kind.Number (after_number bytes) ≡ Some (k, rest)))
-    → IsRead bytes k rest
+      → IsRead bytes k rest
   of_first (inl p) = let o = of_kind-reads kind.Iid k (after iid bytes) rest p in read-as bytes rest kind.Iid k o.1 (iid-reads bytes rest o.0)
   of_first (inr p) =
-    let o = of_kind-reads kind.Number k (after_number bytes) rest p.1 in read-as bytes rest kind.Number k o.1 (number-reads bytes rest o.0)
+      let o = of_kind-reads kind.Number k (after_number bytes) rest p.1 in read-as bytes rest kind.Number k o.1 (number-reads bytes rest o.0)
 
 marked-reads : (bytes rest : List ℕ) (k : Kind) → of_kind kind.Mark (after_mark bytes) ≡ Some (k, rest) → IsRead bytes k rest
 marked-reads bytes rest k e = let o = of_kind-reads kind.Mark k (after_mark bytes) rest e in read-as bytes rest kind.Mark k o.1 (mark-reads bytes rest o.0)
@@ -148,7 +154,7 @@ iid-first : (text : List ℕ) → IsMadeOf iid text → (c : ℕ) × (cs : List 
 unfolding iid
 iid-first text m = of_front m.0 m.2 m.3 m.4 where
   of_front : (front : List ℕ) → text ≡ front ++ m.1 → list_all (is_in Hexadecimal) front ≡ true → length front ≡ 8
-    → (c : ℕ) × (cs : List ℕ) × (text ≡ c ∷ cs) × (is_in Hexadecimal c ≡ true)
+      → (c : ℕ) × (cs : List ℕ) × (text ≡ c ∷ cs) × (is_in Hexadecimal c ≡ true)
   of_front [] e all n = absurd (omega arith)
   of_front (c ∷ cs) e all n = (c, cs ++ m.1, e, (both_true (is_in Hexadecimal c) (list_all (is_in Hexadecimal) cs) all).0)
 
@@ -292,10 +298,10 @@ iid-takes text next m =
     let f = iid-first text m in
     let t = takes-kind kind.Iid next (after iid (text ++ next)) (parts-longest iid text next iid-greedy m) in
     of_test (f.0) (f.1) f.2 (is_in NameStart f.0) refl f.3 t where
-  of_test : (c : ℕ) (cs : List ℕ) → text ≡ c ∷ cs → (b : Bool) → is_in NameStart c ≡ b → is_in Hexadecimal c ≡ true
-    → Takes kind.Iid next (of_kind kind.Iid (after iid (text ++ next))) → Takes kind.Iid next (token_at (text ++ next))
-  of_test c cs e true l h t = iid-lettered c cs text next e l t
-  of_test c cs e false l h t = iid-numbered c cs text next e (hexadecimal-digit c h l) t
+      of_test : (c : ℕ) (cs : List ℕ) → text ≡ c ∷ cs → (b : Bool) → is_in NameStart c ≡ b → is_in Hexadecimal c ≡ true
+          → Takes kind.Iid next (of_kind kind.Iid (after iid (text ++ next))) → Takes kind.Iid next (token_at (text ++ next))
+      of_test c cs e true l h t = iid-lettered c cs text next e l t
+      of_test c cs e false l h t = iid-numbered c cs text next e (hexadecimal-digit c h l) t
 
 number-takes : (text next : List ℕ) → IsMadeOf hexadecimal text ⊎ IsMadeOf decimal text → Takes kind.Number next (token_at (text ++ next))
 unfolding numbered_at
@@ -355,13 +361,13 @@ pub token-sound : (bytes rest : List ℕ) (k : Kind) → token_at bytes ≡ Some
 token-sound bytes rest k e =
     let r = token-reads bytes rest k e in
     (r.0, r.1, record { spelled = r.2; longest = λ other first next same spelled. longest r.0 r.1 other first next same spelled }) where
-  longest : (text : List ℕ) → bytes ≡ text ++ rest → (other : Kind) (first next : List ℕ) → first ++ next ≡ text ++ rest → Spells other first next → length first ≤ length text
-  longest text whole other first next same spelled =
-    let t = spelled-takes other first next spelled in
-    let a : token_at (first ++ next) ≡ Some (k, rest) = rw (same, ← whole) e in
-    let p : pair t.0 t.1 ≡ pair k rest = some_alike (sym t.2 ∙ a) in
-    let l : length rest ≤ length next = rw (← ap (λ q. q.1) p) t.3 in
-    omega (arith, ap length same, length-append first next, length-append text rest)
+      longest : (text : List ℕ) → bytes ≡ text ++ rest → (other : Kind) (first next : List ℕ) → first ++ next ≡ text ++ rest → Spells other first next → length first ≤ length text
+      longest text whole other first next same spelled =
+          let t = spelled-takes other first next spelled in
+          let a : token_at (first ++ next) ≡ Some (k, rest) = rw (same, ← whole) e in
+          let p : pair t.0 t.1 ≡ pair k rest = some_alike (sym t.2 ∙ a) in
+          let l : length rest ≤ length next = rw (← ap (λ q. q.1) p) t.3 in
+          omega (arith, ap length same, length-append first next, length-append text rest)
 
 pub token-again : (what : Kind) (text next : List ℕ) → IsToken what text next → token_at (text ++ next) ≡ Some (what, next)
 token-again what text next t =

@@ -6,6 +6,7 @@ use Rattle.idl_lexer.specs.declared.token.Token.{Token}
 use Rattle.idl_lexer.specs.declared.token.Tokens.{Tokens}
 use Rattle.idl_lexer.specs.declared.token.LexError.{LexError}
 use Rattle.idl_lexer.specs.declared.token.LexError.TheVariants as fault
+use Rattle.idl_lexer.specs.Spelling.{IsToken}
 use Rattle.idl_lexer.specs.Pieces.{Piece, IsPiece, text_of, IsChain}
 
 -- the line of what stands behind these bytes: one more than their line feeds
@@ -46,6 +47,11 @@ pub record IsNoToken (text : List ℕ) (at : ℕ) : Type 0 where
 -- the bytes of a token
 abbrev pub spelling_of : List ℕ → Token → List ℕ
 spelling_of text token = slice_range text token.start token.end
+
+-- the token is the longest spelling at its place, with its kind and its line
+pub record IsTokenOf (text : List ℕ) (token : Token) : Type 0 where
+  pub spelled : IsToken token.kind (spelling_of text token) (drop token.end text)
+  pub on_line : token.line ≡ line_behind (take token.start text)
 
 -- the tokens stand one behind the other between the two places, and none is empty
 abbrev pub StandInOrder : ℕ → List Token → ℕ → Type 0

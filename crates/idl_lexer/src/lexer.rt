@@ -1,5 +1,5 @@
-ghost use Rattle.std.specs.Prelude.{◌≡◌, ◌≤◌, ◌+◌, ◌-◌, ◌==◌, length, take, count_by, IfErr, IfOk};
-ghost use Rattle.idl_lexer.specs.Tokens.{AreTokens, HasOneReading, IfAt, IsGiven, IsNoToken, StandInOrder, line_behind};
+ghost use Rattle.std.specs.Prelude.{All, ◌≡◌, ◌≤◌, ◌+◌, ◌-◌, ◌==◌, length, take, count_by, IfErr, IfOk};
+ghost use Rattle.idl_lexer.specs.Tokens.{AreTokens, HasOneReading, IfAt, IsGiven, IsNoToken, IsTokenOf, StandInOrder, line_behind};
 
 use crate::piece::piece;
 use crate::token::{LexError, Token, Tokens};
@@ -67,6 +67,7 @@ pub fn lex(alloc: Global, source: &[u8]) -> Result<Tokens, LexError>
     // The text itself and its tokens, one behind the other.
     ensures source { IfOk result (λ t. t.source ≡ source.now) }
     ensures tokens { IfOk result (λ t. AreTokens source.now t.list) }
+    ensures each { IfOk result (λ t. All (IsTokenOf source.now) t.list) }
     ensures in_order { IfOk result (λ t. StandInOrder 0 t.list (length source.now)) }
 
     // Where a text has tokens, these are given, unless memory runs out.
@@ -83,3 +84,6 @@ pub fn lex(alloc: Global, source: &[u8]) -> Result<Tokens, LexError>
     let source = Bytes::copy(alloc, source)?;
     Ok(Tokens { source, list })
 }
+
+#[cfg(test)]
+mod tests;

@@ -83,17 +83,18 @@ pub fn after_counted(bytes: &[u8], class: Class, count: usize) -> Option<&[u8]>
     ensures { option_copied result ≡ spec.after_counted class count bytes.now }
 {
     let (front, rest) = bytes.split_at_checked(count)?;
-    if all_of(front, class) { Some(rest) } else { None }
+    if all_of(front, class) {
+        Some(rest)
+    } else {
+        None
+    }
 }
 
 fn run_length(bytes: &[u8], class: Class) -> usize
     ensures value { result ≡ prefix_len (is_in class) bytes.now }
     ensures within { result ≤ length bytes.now }
 {
-    bytes
-        .iter()
-        .take_while(|byte| class.holds(**byte))
-        .count()
+    bytes.iter().take_while(|byte| class.holds(**byte)).count()
 }
 
 /// The bytes of a class at the front, as many as stand there, and what is left behind them.
@@ -129,7 +130,11 @@ pub fn after_short(bytes: &[u8], class: Class) -> Option<&[u8]>
     ensures { option_copied result ≡ spec.after_run class short bytes.now }
 {
     let (run, rest) = split_run(bytes, class);
-    if run.is_empty() || run.len() > LONGEST { None } else { Some(rest) }
+    if run.is_empty() || run.len() > LONGEST {
+        None
+    } else {
+        Some(rest)
+    }
 }
 
 /// Behind a name that is no keyword.
@@ -138,5 +143,9 @@ pub fn after_word(bytes: &[u8]) -> Option<&[u8]>
     ensures { option_copied result ≡ spec.after_run Class.NameByte is_word bytes.now }
 {
     let (run, rest) = split_run(bytes, Class::NameByte);
-    if is_name(run) && !is_key(run) { Some(rest) } else { None }
+    if is_name(run) && !is_key(run) {
+        Some(rest)
+    } else {
+        None
+    }
 }

@@ -6,7 +6,10 @@ ghost use Rattle.idl_lexer.specs.Reading as spec;
 ghost use Rattle.idl_lexer.specs.Spelling.{hexadecimal, iid, include, native, language};
 
 use crate::class::Class;
-use crate::part::{after_any, after_counted, after_literal, after_short, after_some, after_word, is_key, is_name, split_run};
+use crate::part::{
+    after_any, after_counted, after_literal, after_short, after_some, after_word, is_key, is_name,
+    split_run,
+};
 use crate::token::Kind;
 
 #[tactic(auto, using(crate::proofs::Basics::and_then_some), unfolding(crate::specs::Spelling::hexadecimal))]
@@ -120,7 +123,9 @@ fn after_mark(bytes: &[u8]) -> Option<&[u8]>
         return Some(rest);
     }
     match rest {
-        [second, more @ ..] if *first == *second && (*first == b'<' || *first == b'>') => Some(more),
+        [second, more @ ..] if *first == *second && (*first == b'<' || *first == b'>') => Some(
+            more,
+        ),
         _ => None,
     }
 }

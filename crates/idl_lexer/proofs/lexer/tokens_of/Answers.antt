@@ -26,14 +26,14 @@ pub loop-rest-preserved : goal.loop-rest-preserved
 unfolding feeds piece_text token_from
 loop-rest-preserved c =
     let list = c.loop-rest.list in
-    elim c.match-kind.branch
-    [ in-Some-kind+in_ok-push w ↦
-        token-turn c.args.source.now list c.loop-rest.rest.now c.loop-rest.line c.in-Some.kind w.in-Some-kind.kind c.in-Some.next.now
-        c.place-start.result c.place-end.result c.line_feeds-feeds.result c.match-kind.list
-        c.loop-rest.invariant (sym c.in-Some.ensures) w.in-Some-kind.is c.place-start.ensures c.place-end.ensures c.line_feeds-feeds.ensures
-        (w.list-is ∙ w.in_ok-push.ensures.ok)
-    | in_default-kind w ↦
-        blank-turn c.args.source.now list c.loop-rest.rest.now c.loop-rest.line c.in-Some.kind c.in-Some.next.now
-        c.line_feeds-feeds.result c.match-kind.list
-        c.loop-rest.invariant (sym c.in-Some.ensures) w.in_default-kind.is c.line_feeds-feeds.ensures w.list-is
+    elim c.match-kind.branch [
+      | in-Some-kind+in_ok-push w ↦
+          token-turn c.args.source.now list c.loop-rest.rest.now c.loop-rest.line c.in-Some.kind w.in-Some-kind.kind c.in-Some.next.now
+          c.place-start.result c.place-end.result c.line_feeds-feeds.result c.match-kind.list
+          c.loop-rest.invariant (sym c.in-Some.ensures) w.in-Some-kind.is c.place-start.ensures c.place-end.ensures c.line_feeds-feeds.ensures
+          (w.list-is ∙ w.in_ok-push.ensures.ok)
+      | in_default-kind w ↦
+          blank-turn c.args.source.now list c.loop-rest.rest.now c.loop-rest.line c.in-Some.kind c.in-Some.next.now
+          c.line_feeds-feeds.result c.match-kind.list
+          c.loop-rest.invariant (sym c.in-Some.ensures) w.in_default-kind.is c.line_feeds-feeds.ensures w.list-is
     ]
