@@ -197,6 +197,14 @@ pub blank-turn : (text : List ℕ) (list : List Token) (rest : List ℕ) (line :
     → IsReadTo text list rest line → piece_at rest ≡ Some (k, next) → k ≡ None → count ≡ feeds (piece_text rest next) → new ≡ list → IsReadTo text new next (line + count)
 blank-turn text list rest line k next count new r e is n w = rw (w, n) (read-blank text list rest line next r (rw is at e))
 
+-- there are no more tokens than bytes
+in_order-count : (from : ℕ) (ts : List Token) (to : ℕ) → StandInOrder from ts to → from + length ts ≤ to
+in_order-count from [] to s = omega arith
+in_order-count from (t ∷ ts) to s = omega (arith, in_order-count t.end ts to s.2, s.0, s.1)
+
+pub tokens-count : (text : List ℕ) (list : List Token) → AreTokens text list → length list ≤ length text
+tokens-count text list a = omega (arith, in_order-count 0 list (length text) (tokens-in_order text list a))
+
 -- ---- each token
 
 each-token : (before text next : List ℕ) (what : Kind) → IsToken what text next
@@ -210,7 +218,10 @@ each-token before text next what t =
     let behind : drop (length before + length text) (before ++ (text ++ next)) ≡ next =
     ap (λ xs. drop (length before + length text) xs) (sym (append_assoc before text next)) ∙ drop_at (before ++ text) next _ (length-append before text) in
     let front : take (length before) (before ++ (text ++ next)) ≡ before = take_at before (text ++ next) _ refl in
+    let size_is_some : 0 < length text = piece-filled (Some what) text next t in
     record {
+      filled = omega arith;
+      within = omega (arith, length-append before (text ++ next), length-append text next);
       spelled = rw (spelling, behind) t;
       on_line = ap line_behind (sym front);
     }

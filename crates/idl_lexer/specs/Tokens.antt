@@ -48,8 +48,10 @@ pub record IsNoToken (text : List ℕ) (at : ℕ) : Type 0 where
 abbrev pub spelling_of : List ℕ → Token → List ℕ
 spelling_of text token = slice_range text token.start token.end
 
--- the token is the longest spelling at its place, with its kind and its line
+-- the token stands in the text, and is the longest spelling at its place, with its kind and its line
 pub record IsTokenOf (text : List ℕ) (token : Token) : Type 0 where
+  pub filled : token.start < token.end
+  pub within : token.end ≤ length text
   pub spelled : IsToken token.kind (spelling_of text token) (drop token.end text)
   pub on_line : token.line ≡ line_behind (take token.start text)
 

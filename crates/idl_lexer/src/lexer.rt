@@ -1,3 +1,5 @@
+//! The tokens of a whole text, piece by piece.
+
 ghost use Rattle.std.specs.Prelude.{All, ◌≡◌, ◌≤◌, ◌+◌, ◌-◌, ◌==◌, length, take, count_by, IfErr, IfOk};
 ghost use Rattle.idl_lexer.specs.Tokens.{AreTokens, HasOneReading, IfAt, IsGiven, IsNoToken, IsTokenOf, StandInOrder, line_behind};
 

@@ -1,3 +1,5 @@
+//! A token, and what the lexer answers.
+
 ghost use Rattle.std.specs.Prelude.{◌≡◌};
 
 use thiserror::Error;
