@@ -45,7 +45,7 @@ no_bits known bits none is = record { byte = omega arith; known_alone = rw is no
 param_ok : (params : List Param) (p : Param) → IsThinParam p → IsParam 1 params p
 param_ok params p thin = record {
   flags = record { byte = omega (arith, thin.flags); known_alone = rw thin.flags refl };
-  ty = let P : XType → Type 0 = IsType 1 params in subst P (sym thin.ty) (inl (omega arith))
+  ty = let P : XType → Type 0 = IsType 1 params in subst P (sym thin.ty) (inl (omega arith));
 }
 
 method_ok : (m : Method) → ThinMethodParts m → IsMethod 1 m
@@ -53,7 +53,7 @@ method_ok m parts = record {
   name = parts.name;
   flags = no_bits method_bits m.flags.bits refl parts.flags;
   few = parts.few;
-  params = λ k d h. param_ok m.params (get_or m.params k d) (parts.params k d h)
+  params = λ k d h. param_ok m.params (get_or m.params k d) (parts.params k d h);
 }
 
 body_ok : (i : Iface) (b : Body) → ThinBodyParts b → IsBody (i ∷ []) b
@@ -62,7 +62,7 @@ body_ok i b parts = record {
   methods = λ k d h. method_ok (get_or b.methods k d) (parts.methods k d h);
   few_constants = rw parts.constants (omega arith);
   constants = λ k d h. absurd (let none : length b.constants ≡ 0 = ap length parts.constants in omega (arith, h));
-  flags = no_bits iface_bits b.flags.bits refl parts.flags
+  flags = no_bits iface_bits b.flags.bits refl parts.flags;
 }
 
 -- the body of a thin interface, whichever it is
@@ -76,7 +76,7 @@ body_thin (Some b) parts = record {
   parent = parts.parent;
   methods = λ k d h. record { flags = (parts.methods k d h).flags; params = (parts.methods k d h).params };
   constants = parts.constants;
-  flags = parts.flags
+  flags = parts.flags;
 }
 
 parent_thin : (o : Option Body) → IsSomeAnd o ThinBodyParts → parent_in o ≡ 0
@@ -91,7 +91,7 @@ items_thin : (o : Option Body) → IsSomeAnd o ThinBodyParts → items_in o ≤ 
 items_thin None parts = absurd parts
 items_thin (Some b) parts =
     let each : sum_by (λ (m : Method). 1 + length m.params) b.methods ≤ length b.methods * 256 =
-        sum_by-le (λ (m : Method). 1 + length m.params) 256 b.methods (λ k d h. omega (arith, (parts.methods k d h).few))
+    sum_by-le (λ (m : Method). 1 + length m.params) 256 b.methods (λ k d h. omega (arith, (parts.methods k d h).few))
     in let few : length b.methods ≤ 250 = parts.few
     in let none : length b.constants ≡ 0 = ap length parts.constants
     in omega arith
@@ -109,7 +109,7 @@ chain_ok i number parts above below =
     in let P : ℕ → Type 0 = IsChain (i ∷ [])
     in subst P (sym one) (record { short = rw alone (omega arith); few_slots = rw alone (omega arith) })
 
-all_alone : {A : Type 0} (P : A → Type 0) (x : A) → P x → All P (x ∷ [])
+pub all_alone : {A : Type 0} (P : A → Type 0) (x : A) → P x → All P (x ∷ [])
 all_alone P x holds zero d h = holds
 all_alone P x holds (suc k) d h = absurd (omega (arith, h))
 
@@ -122,13 +122,13 @@ thin_from_parts i parts = record {
       name = parts.name;
       namespace = let P : Option (List ℕ) → Type 0 = λ o. IfSome o IsNamespace in subst P (sym parts.namespace) tt;
       iid = parts.iid;
-      body = body_valid i i.body parts.body
+      body = body_valid i i.body parts.body;
     });
     chains = λ number above below. chain_ok i number parts above below;
-    few_items = let few : items_in i.body ≤ 64000 = items_thin i.body parts.body in omega (arith, sum_by-cons iface_items i [])
+    few_items = let few : items_in i.body ≤ 64000 = items_thin i.body parts.body in omega (arith, sum_by-cons iface_items i []);
   };
   one = refl;
-  ifaces = all_alone IsThinIface i (record { namespace = parts.namespace; body = body_thin i.body parts.body })
+  ifaces = all_alone IsThinIface i (record { namespace = parts.namespace; body = body_thin i.body parts.body });
 }
 
 -- ---- the length of the typelib
@@ -145,9 +145,9 @@ thin_body_len : (ifaces : List Iface) (o : Option Body) → IsSomeAnd o IsThinBo
 thin_body_len ifaces None thin valid few = absurd thin
 thin_body_len ifaces (Some b) thin valid few =
     let names : sum_by method_size b.methods ≤ length b.methods * 256 =
-        sum_by-le method_size 256 b.methods (λ k d h. omega (arith, (valid.methods k d h).name.short))
+    sum_by-le method_size 256 b.methods (λ k d h. omega (arith, (valid.methods k d h).name.short))
     in let texts : sum_by method_len b.methods ≤ length b.methods * 518 =
-        sum_by-le method_len 518 b.methods (λ k d h. omega (arith, thin_params (get_or b.methods k d).params (thin.methods k d h).params, (valid.methods k d h).few))
+    sum_by-le method_len 518 b.methods (λ k d h. omega (arith, thin_params (get_or b.methods k d).params (thin.methods k d h).params, (valid.methods k d h).few))
     in let no_names : sum_by constant_size b.constants ≡ 0 = rw thin.constants refl
     in let no_texts : sum_by constant_len b.constants ≡ 0 = rw thin.constants refl
     in omega (arith, length-append (member_names b) (descriptor_text 1 b), length_member_names b, length-descriptor_text 1 b)

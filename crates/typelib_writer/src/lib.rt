@@ -9,6 +9,8 @@ mod methods;
 mod names;
 mod numbers;
 mod param_bytes;
+#[cfg(test)]
+mod tests;
 
 pub use errors::WriteError;
 pub use file::write;
