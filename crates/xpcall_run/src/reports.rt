@@ -1,0 +1,83 @@
+//! The report of a failure.
+
+ghost use Rattle.std.specs.Prelude.{◌≡◌, ◌≤◌, ◌++◌, codes, pos, OnErr, OnOk};
+ghost use Rattle.xp_base.specs.Causes.{Rose, SinkCause};
+ghost use Rattle.xp_base.specs.Digits.{decimal_text};
+ghost use Rattle.xp_base.specs.Written.{Gained, GainedPrefix};
+ghost use Rattle.xpcall_run.specs.FaultText.{failure_text};
+ghost use Rattle.xpcall_run.specs.Reporting.{Reports};
+
+use crate::failures::{CANNOT_WRITE, Failure, OUT_OF_MEMORY};
+use std::alloc::Global;
+use xp_base::{Bytes, Sink, SinkError, dec_text, put_all};
+
+/// Writes the failure's text to `err` and gives the status to end with: the failure's own, or 4 where the text could not be
+/// written, or 5 where there was no memory for it.
+pub fn report<E: Sink>(alloc: Global, failure: &Failure, err: &mut E) -> u8
+    ensures { Reports failure.now (E.written err.old) (E.written err.new) (Rose (E.faults err.old) (E.faults err.new)) result }
+{
+    match put_failure(alloc, failure, err) {
+        Ok(()) => failure.status(),
+        Err(SinkError::Failed) => CANNOT_WRITE,
+        Err(SinkError::Memory) => OUT_OF_MEMORY,
+    }
+}
+
+/// Puts the text of a failure.
+#[tactic(auto, unfolding(crate::specs::FaultText::failure_text))]
+fn put_failure<E: Sink>(alloc: Global, failure: &Failure, err: &mut E) -> Result<(), SinkError>
+    ensures ok { OnOk result (Gained (E.written err.old) (E.written err.new) (failure_text failure.now)) }
+    ensures err { OnErr result (GainedPrefix (E.written err.old) (E.written err.new) (failure_text failure.now)) }
+    ensures cause { SinkCause (E.faults err.old) (E.faults err.new) result }
+{
+    match failure {
+        Failure::Usage => put_all(
+            err,
+            b"usage: xpcall compile FILE... | dump XPT | call CONV XPT SCRIPT | big N\n",
+        ),
+        Failure::CannotRead(name) => put_framed(alloc, b"cannot read ", name, b"\n", err),
+        Failure::CannotWrite => put_all(err, b"cannot write\n"),
+        Failure::OutOfMemory => put_all(err, b"out of memory\n"),
+        Failure::NoFile(name) => put_framed(alloc, b"no file ", name, b"\n", err),
+        Failure::TooLong(name) => put_framed(alloc, b"too long ", name, b"\n", err),
+        Failure::Token { name, line } => put_numbered(alloc, name, *line, b": token\n", err),
+        Failure::Form(name) => put_framed(alloc, b"", name, b": form\n", err),
+    }
+}
+
+/// Puts a name with what stands before and behind it, in one piece.
+fn put_framed<E: Sink>(
+    alloc: Global,
+    before: &[u8],
+    name: &Bytes,
+    behind: &[u8],
+    err: &mut E,
+) -> Result<(), SinkError>
+    ensures ok { OnOk result (Gained (E.written err.old) (E.written err.new) (before.now ++ name.now ++ behind.now)) }
+    ensures err { OnErr result (GainedPrefix (E.written err.old) (E.written err.new) (before.now ++ name.now ++ behind.now)) }
+    ensures cause { SinkCause (E.faults err.old) (E.faults err.new) result }
+{
+    let mut text = Bytes::copy(alloc, before)?;
+    text.append(name.as_slice())?;
+    text.append(behind)?;
+    put_all(err, text.as_slice())
+}
+
+/// Puts a name, the number of a line behind a colon, and what stands behind both, in one piece.
+fn put_numbered<E: Sink>(
+    alloc: Global,
+    name: &Bytes,
+    line: u32,
+    behind: &[u8],
+    err: &mut E,
+) -> Result<(), SinkError>
+    ensures ok { OnOk result (Gained (E.written err.old) (E.written err.new) (name.now ++ codes ":" ++ decimal_text (pos line) ++ behind.now)) }
+    ensures err { OnErr result (GainedPrefix (E.written err.old) (E.written err.new) (name.now ++ codes ":" ++ decimal_text (pos line) ++ behind.now)) }
+    ensures cause { SinkCause (E.faults err.old) (E.faults err.new) result }
+{
+    let mut text = Bytes::copy(alloc, name.as_slice())?;
+    text.append(b":")?;
+    text.append(dec_text(alloc, i128::from(line))?.as_slice())?;
+    text.append(behind)?;
+    put_all(err, text.as_slice())
+}
