@@ -89,12 +89,17 @@ fn files_of_the_system(rt: HostRuntime) -> Result<(), Fail> {
         let fetched = source.fetch(alloc, name.as_bytes(), limit)?;
         assert!(rt; is_file(&fetched, want), "at {name}, {limit}");
     }
-    // A name that is not UTF-8, and a folder, twice each.
-    for name in [b"\xff", b".", b"\xff", b"."] {
-        assert!(rt; matches!(source.fetch(alloc, name, 5), Err(SourceError::Failed)));
-    }
     fs::remove_file(&rt, PATH)?;
     Ok(())
+}
+
+#[test]
+fn files_that_fail(rt: HostRuntime) {
+    let mut source = FileSource::new(&rt);
+    // A name that is not UTF-8, and a folder, twice each.
+    for name in [b"\xff", b".", b"\xff", b"."] {
+        assert!(rt; matches!(source.fetch(rt.alloc(), name, 5), Err(SourceError::Failed)));
+    }
 }
 
 /// Takes nothing.
@@ -121,6 +126,11 @@ fn streams_of_the_system(rt: HostRuntime) -> Result<(), Fail> {
     let written = fs::read(&rt, PATH)?;
     assert_eq!(rt; written.as_slice(), b"all of it".as_slice());
     fs::remove_file(&rt, PATH)?;
+    Ok(())
+}
+
+#[test]
+fn streams_that_fail(rt: HostRuntime) -> Result<(), Fail> {
     let full = File::options().write(true).open(&rt, "/dev/full")?;
     let mut sink = StreamSink::new(full);
     assert!(rt; matches!(put_all(&mut sink, b"all"), Err(SinkError::Failed)));
