@@ -1,5 +1,5 @@
 -- What a sink gained over several calls.
-use Rattle.std.proofs.Common.{◌≡◌, ℕ, ◌+◌, ◌-◌, ◌≤◌, List, [], ◌++◌, Option, Some, Result, Ok, Err, OnErr, length, take, drop, refl, ap, sym, subst, ◌∙◌, append_assoc, length-drop, arith}
+use Rattle.std.proofs.Common.{◌≡◌, ℕ, ◌+◌, ◌-◌, ◌≤◌, List, [], ◌++◌, Option, Some, Result, Ok, Err, OnErr, length, take, drop, ap, subst, ◌∙◌, append_assoc, length-drop, arith}
 use Rattle.std.proofs.Math.Seq.{take-add}
 use Rattle.std.proofs.lemmas.List.{take_all, append-nil}
 use Rattle.xp_base.specs.Written.{Gained, GainedNothing, GainedPrefix}

@@ -1,5 +1,5 @@
 -- Counts of faults, and which answers a count accounts for.
-use Rattle.std.specs.Prelude.{ℕ, ◌≡◌, ◌⊎◌, ◌<◌, ◌≤◌, ◌-◌, ◌^◌, Result, Ok, Err}
+use Rattle.std.specs.Prelude.{ℕ, ◌≡◌, ◌⊎◌, ◌<◌, ◌-◌, ◌^◌, Result, Ok, Err}
 use Rattle.xp_base.specs.declared.sources.SourceError.{SourceError}
 use Rattle.xp_base.specs.declared.sources.SourceError.TheVariants as source
 use Rattle.xp_base.specs.declared.sinks.SinkError.{SinkError}

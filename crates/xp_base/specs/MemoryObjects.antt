@@ -1,5 +1,5 @@
 -- What the memory objects with scripted failures remember.
-use Rattle.std.specs.Prelude.{ℕ, ◌+◌, ◌-◌, ◌^◌, List, min, Contains}
+use Rattle.std.specs.Prelude.{ℕ, ◌+◌, ◌-◌, ◌^◌, List, min}
 use Rattle.xp_base.specs.Files.{Files}
 
 -- A source in memory: its files, the numbers of the fetches that fail, how many fetches there were, and how many failed.

@@ -1,5 +1,5 @@
 -- What a sink tells of the bytes that were written to it.
-use Rattle.std.specs.Prelude.{ℕ, ◌≡◌, ◌≤◌, List, [], ◌++◌, length, take, Option, Some, Result, Ok, Err}
+use Rattle.std.specs.Prelude.{ℕ, ◌≡◌, ◌≤◌, List, [], ◌++◌, length, take, Option, Some}
 
 -- The sink gained this text at its end, where it tells what was written.
 abbrev pub Gained : (before after : Option (List ℕ)) → (text : List ℕ) → Type 0

@@ -1,4 +1,4 @@
-ghost use Rattle.std.specs.Prelude.{ℕ, ◌≡◌, ◌≤◌, length, None, IfOk, IfSome, OnErr};
+ghost use Rattle.std.specs.Prelude.{ℕ, ◌≡◌, ◌≤◌, List, length, take, None, Some, IfOk, IfSome, OnErr};
 ghost use Rattle.xp_base.specs.Causes.{Rose, SinkCause};
 
 use crate::byte_list::Bytes;
@@ -64,7 +64,8 @@ fn read_file<R: Files>(
 
 /// What `file` has left, up to `most` bytes of it.
 fn read_at_most<F: Read>(alloc: Global, file: &mut F, most: usize) -> Result<Bytes, SourceError>
-    ensures { IfOk result (λ bytes. length bytes ≤ most) }
+    ensures within { IfOk result (λ bytes. length bytes ≤ most) }
+    ensures content { (left : List ℕ) → F.remaining file.old ≡ Some left → IfOk result (λ bytes. bytes ≡ take most left) }
 {
     let mut bytes = Bytes::new(alloc);
     let mut room = most;

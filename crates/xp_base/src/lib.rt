@@ -13,6 +13,8 @@ mod numbers;
 mod run_faults;
 mod sinks;
 mod sources;
+#[cfg(test)]
+mod tests;
 mod value_list;
 
 pub use adapters::{FileSource, StderrSink, StdoutSink, StreamSink};
