@@ -15,6 +15,6 @@ mod thin_rules;
 mod thin_tokens;
 
 pub use commands::Command;
-pub use failures::Failure;
+pub use failures::{Failure, OUT_OF_MEMORY};
 pub use running::run;
 pub use thin_interface::{ThinInterface, ThinMethod};
