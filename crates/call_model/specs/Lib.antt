@@ -1,0 +1,3 @@
+pub mod Placement
+pub mod Prototype
+pub mod Types

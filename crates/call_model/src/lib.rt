@@ -1,0 +1,13 @@
+//! The call model: the C types of arguments, the table of interfaces with their prototypes, the calling
+//! conventions, and where each convention passes an argument. It knows no typelib and no memory.
+#![tactic(auto)]
+
+mod ctypes;
+mod places;
+mod prototypes;
+mod tables;
+
+pub use ctypes::CType;
+pub use places::{Conv, Loc, fprs_of, gprs_of, word_of};
+pub use prototypes::{MemberKind, Note, Pass, ProtoArg, Status};
+pub use tables::{Table, TableIface, TableSlot};
