@@ -1,3 +1,4 @@
+pub mod Laws
 pub mod Placement
 pub mod Prototype
 pub mod Types

@@ -1,7 +1,7 @@
 -- What stands at the place of an argument: the pattern of a value, the frame that holds the values of a call, which
 -- frames hold given values as the convention asks, and which values a frame gives to the one who is called.
-use Rattle.std.specs.Prelude.{◌≡◌, ℕ, suc, zero, ◌+◌, ◌*◌, ◌-◌, ◌/◌, ◌%◌, ◌^◌, ◌<◌, ◌≤◌, Bool, true, false, nat_lt, nat_le, nat_eq, ◌&&◌, List, [], ◌∷◌, ◌++◌, length, map, fold, take, slice_index, if◌then◌else◌}
-use Rattle.std.specs.List.{range_with_len, slice_index_or}
+use Rattle.std.specs.Prelude.{◌≡◌, ℕ, suc, zero, ◌+◌, ◌*◌, ◌-◌, ◌/◌, ◌%◌, ◌^◌, ◌<◌, ◌≤◌, Bool, true, false, nat_lt, nat_le, nat_eq, ◌&&◌, List, [], ◌∷◌, ◌++◌, length, map, fold, slice_index, if◌then◌else◌}
+use Rattle.std.specs.List.{range_with_len}
 use Rattle.call_model.specs.declared.ctypes.CType.{CType}
 use Rattle.call_model.specs.declared.ctypes.CType.TheVariants.{I8, I16, I32, I64, U8, U16, U32, U64, F32, F64, Char, WChar, Ptr}
 use Rattle.call_model.specs.declared.ctypes.CType.TheVariants.{Bool as BoolType}
@@ -9,7 +9,7 @@ use Rattle.call_model.specs.declared.places.Conv.{Conv}
 use Rattle.call_model.specs.declared.places.Loc.{Loc}
 use Rattle.call_model.specs.declared.places.Loc.TheVariants.{Gpr, Fpr, Stack}
 use Rattle.call_model.specs.Types.{is_signed}
-use Rattle.call_model.specs.Placement.{word_of, place, space_of, stack_len_of}
+use Rattle.call_model.specs.Placement.{word_of, place, space_of, stack_len_of, type_at, place_at}
 
 -- how many bytes are a value's own; a pointer has a word
 abbrev pub own_len : Conv → CType → ℕ
@@ -108,19 +108,12 @@ abbrev pub frame_of : Conv → List CType → List ℕ → FrameView
 frame_of conv types patterns = record {
   gprs = map (gpr_of (arguments conv types patterns)) (range_with_len 0 8);
   fprs = map (fpr_of (arguments conv types patterns)) (range_with_len 0 8);
-  stack = map (byte_of (arguments conv types patterns)) (range_with_len 0 (stack_len_of conv types))
+  stack = map (byte_of (arguments conv types patterns)) (range_with_len 0 (stack_len_of conv types));
 }
 
 -- the frame of a call: the canonical patterns of its values, each at its place
 abbrev pub placed : Conv → List CType → List ℕ → FrameView
 placed conv types values = frame_of conv types (canon_all conv types values)
-
--- the type and the place of argument i
-abbrev pub type_at : List CType → ℕ → CType
-type_at types i = slice_index_or types i I8
-
-abbrev pub place_at : Conv → List CType → ℕ → Loc
-place_at conv types i = place conv (take i types) (type_at types i)
 
 -- the n low bytes at a place are those of v
 abbrev pub HoldsOwn : FrameView → (n v : ℕ) → Loc → Type 0

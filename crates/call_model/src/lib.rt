@@ -2,11 +2,13 @@
 //! conventions, and where each convention passes an argument. It knows no typelib and no memory.
 #![tactic(auto)]
 
+mod conventions;
 mod ctypes;
 mod places;
 mod prototypes;
 mod tables;
 
+pub use conventions::Convention;
 pub use ctypes::CType;
 pub use places::{Conv, Loc, fprs_of, gprs_of, word_of};
 pub use prototypes::{MemberKind, Note, Pass, ProtoArg, Status};
