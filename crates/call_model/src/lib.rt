@@ -10,6 +10,6 @@ mod tables;
 
 pub use conventions::Convention;
 pub use ctypes::CType;
-pub use places::{Conv, Loc, fprs_of, gprs_of, word_of};
+pub use places::{Conv, Loc, fprs_of, gprs_of, overflow_bytes, place_by_class, space_of, word_of};
 pub use prototypes::{MemberKind, Note, Pass, ProtoArg, Status};
 pub use tables::{Table, TableIface, TableSlot};
