@@ -1,15 +1,13 @@
 -- The laws of the places of arguments, each for all five conventions.
-use Rattle.std.proofs.Common.{◌≡◌, ℕ, suc, ◌+◌, ◌*◌, ◌-◌, ◌/◌, ◌%◌, ◌<◌, ◌≤◌, Bool, true, false, not, cond, ◌&&◌, nat_eq, max, List, [], ◌∷◌, ◌++◌, length, length-append, ap, sym, ◌∙◌, refl, add-one, arith}
+use Rattle.std.proofs.Common.{◌≡◌, ℕ, ◌+◌, ◌*◌, ◌-◌, ◌/◌, ◌%◌, ◌<◌, ◌≤◌, Bool, true, false, not, cond, ◌&&◌, nat_eq, List, [], ◌∷◌, ◌++◌, length, length-append, ap, ◌∙◌, refl, add-one, arith}
 use Rattle.std.specs.List.{sum_by, fold}
 use Rattle.std.proofs.lemmas.List.Sums.{sum_by-append, sum_by-cons, fold-append}
 use Rattle.std.proofs.lemmas.Grind.{common_steps}
 use Rattle.call_model.specs.declared.ctypes.CType.{CType}
 use Rattle.call_model.specs.declared.places.Conv.{Conv}
 use Rattle.call_model.specs.declared.places.Conv.TheVariants.{SysV64, I386, Aapcs64, Ms64, Aapcs32}
-use Rattle.call_model.specs.declared.places.Loc.{Loc}
-use Rattle.call_model.specs.declared.places.Loc.TheVariants.{Gpr, Fpr, Stack}
 use Rattle.call_model.specs.Types.{is_float, is_wide, integers, floats}
-use Rattle.call_model.specs.Placement.{place, place_by_class, place_by_position, overflow_bytes, stack_len_of, space_of, four_or_eight, rounded, area_end, StandsBefore, PlacesApart, IsWithin, PlacesWithin, gprs_of, fprs_of, Continues, FillsStack, StackGrows, StackIsBounded, padding, arguments_end}
+use Rattle.call_model.specs.Placement.{place_by_class, place_by_position, overflow_bytes, four_or_eight, rounded, area_end, StandsBefore, PlacesApart, IsWithin, PlacesWithin, gprs_of, fprs_of, Continues, FillsStack, StackGrows, StackIsBounded}
 
 -- a sum over a list with an element in the middle
 sum-middle : {X : Type 0} (f : X → ℕ) (xs : List X) (t : X) (ys : List X) → sum_by f (xs ++ t ∷ ys) ≡ sum_by f xs + (f t + sum_by f ys)

@@ -1,8 +1,7 @@
 -- C types: their class and their size.
-use Rattle.std.specs.Prelude.{◌≡◌, ℕ, ◌+◌, ◌*◌, ◌-◌, Bool, true, false, not, List, count_by}
+use Rattle.std.specs.Prelude.{ℕ, Bool, true, false, not, List, count_by}
 use Rattle.call_model.specs.declared.ctypes.CType.{CType}
-use Rattle.call_model.specs.declared.ctypes.CType.TheVariants.{I8, I16, I32, I64, U8, U16, U32, U64, F32, F64, Char, WChar, Ptr}
-use Rattle.call_model.specs.declared.ctypes.CType.TheVariants.{Bool as BoolType}
+use Rattle.call_model.specs.declared.ctypes.CType.TheVariants.{I8, I16, I32, I64, U64, F32, F64}
 
 -- class float: F32 and F64. All other types are of class integer
 abbrev pub is_float : CType → Bool

@@ -1,6 +1,6 @@
 -- What stands at the place of an argument: the pattern of a value, the frame that holds the values of a call, which
 -- frames hold given values as the convention asks, and which values a frame gives to the one who is called.
-use Rattle.std.specs.Prelude.{◌≡◌, ℕ, suc, zero, ◌+◌, ◌*◌, ◌-◌, ◌/◌, ◌%◌, ◌^◌, ◌<◌, ◌≤◌, Bool, true, false, nat_lt, nat_le, nat_eq, ◌&&◌, List, [], ◌∷◌, ◌++◌, length, map, fold, slice_index, if◌then◌else◌}
+use Rattle.std.specs.Prelude.{◌≡◌, ℕ, suc, zero, ◌+◌, ◌*◌, ◌-◌, ◌/◌, ◌%◌, ◌^◌, ◌<◌, ◌≤◌, nat_lt, nat_le, nat_eq, ◌&&◌, List, [], ◌∷◌, ◌++◌, length, map, fold, slice_index, if◌then◌else◌}
 use Rattle.std.specs.List.{range_with_len}
 use Rattle.call_model.specs.declared.ctypes.CType.{CType}
 use Rattle.call_model.specs.declared.ctypes.CType.TheVariants.{I8, I16, I32, I64, U8, U16, U32, U64, F32, F64, Char, WChar, Ptr}

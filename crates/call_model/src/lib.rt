@@ -4,12 +4,14 @@
 
 mod conventions;
 mod ctypes;
+mod frames;
 mod places;
 mod prototypes;
 mod tables;
 
 pub use conventions::Convention;
 pub use ctypes::CType;
+pub use frames::passes_at;
 pub use places::{Conv, Loc, fprs_of, gprs_of, overflow_bytes, place_by_class, space_of, word_of};
 pub use prototypes::{MemberKind, Note, Pass, ProtoArg, Status};
 pub use tables::{Table, TableIface, TableSlot};
