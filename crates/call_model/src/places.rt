@@ -1,4 +1,4 @@
-ghost use Rattle.std.specs.Prelude.{◌≡◌};
+ghost use Rattle.std.specs.Prelude.{◌≡◌, ◌≤◌};
 ghost use Rattle.call_model.specs.Placement;
 ghost use Rattle.call_model.specs.Types.{is_float};
 
@@ -61,7 +61,8 @@ pub fn fprs_of(conv: Conv) -> u8
 
 /// How many bytes of stack an argument of this type takes where it stands there.
 pub fn space_of(conv: Conv, ty: CType) -> u32
-    ensures { result ≡ Placement.space_of conv ty }
+    ensures space { result ≡ Placement.space_of conv ty }
+    ensures one_slot { result ≤ 8 }
 {
     match conv {
         Conv::SysV64 | Conv::Aapcs64 | Conv::Ms64 => 8,
