@@ -1,0 +1,3 @@
+pub mod Conforming
+pub mod Patterns
+pub mod PlacedFrames
