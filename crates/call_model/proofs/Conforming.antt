@@ -1,14 +1,13 @@
 -- The frame of a call conforms to its values, and a conforming frame gives their canonical patterns.
-use Rattle.std.proofs.Common.{◌≡◌, ℕ, suc, zero, ◌+◌, ◌*◌, ◌-◌, ◌%◌, ◌^◌, ◌<◌, ◌≤◌, List, [], ◌∷◌, ◌++◌, length, get_or, ap, subst, sym, ◌∙◌, refl, arith}
-use Rattle.std.specs.List.{slice_index, slice_index_or}
+use Rattle.std.proofs.Common.{◌≡◌, ℕ, suc, zero, ◌+◌, ◌*◌, ◌%◌, ◌^◌, ◌<◌, List, [], ◌∷◌, length, ap, subst, sym, ◌∙◌, refl, arith}
+use Rattle.std.specs.List.{slice_index}
 use Rattle.std.proofs.lemmas.List.FromFn.{length-map-range_with_len}
 use Rattle.call_model.specs.declared.ctypes.CType.{CType}
-use Rattle.call_model.specs.declared.ctypes.CType.TheVariants.{I8}
 use Rattle.call_model.specs.declared.places.Conv.{Conv}
 use Rattle.call_model.specs.declared.places.Loc.{Loc}
 use Rattle.call_model.specs.declared.places.Loc.TheVariants.{Gpr, Fpr, Stack}
 use Rattle.call_model.specs.Placement.{place_at, type_at, space_of, stack_len_of}
-use Rattle.call_model.specs.Values.{FrameView, arguments, byte_of, frame_of, placed, canon, canon_all, own_len, own_at, extended, received, pattern_byte, HoldsPattern, HoldsOwn, Conforms, PlacedConforms, ReceivesCanonical}
+use Rattle.call_model.specs.Values.{FrameView, arguments, byte_of, placed, canon, canon_all, own_len, own_at, extended, HoldsPattern, HoldsOwn, PlacedConforms, ReceivesCanonical}
 use Rattle.call_model.proofs.Patterns.{canon-own, own-fits, same-byte, low-own}
 use Rattle.call_model.proofs.PlacedFrames.{holds-each}
 
@@ -47,9 +46,9 @@ pub placed-conforms : (conv : Conv) → PlacedConforms conv
 placed-conforms conv types values e = record {
   enough = omega (arith, length-map-range_with_len (byte_of (arguments conv types (canon_all conv types values))) 0 (stack_len_of conv types));
   own = λ i lt.
-    own-of-pattern conv (type_at types i) (slice_index values i) (placed conv types values) (place_at conv types i)
-    (subst (λ p. HoldsPattern (placed conv types values) (space_of conv (type_at types i)) p (place_at conv types i)) (canon_all-at conv types values i e lt)
-    (holds-each conv types (canon_all conv types values) (e ∙ sym (length-canon_all conv types values e)) i lt))
+      own-of-pattern conv (type_at types i) (slice_index values i) (placed conv types values) (place_at conv types i)
+      (subst (λ p. HoldsPattern (placed conv types values) (space_of conv (type_at types i)) p (place_at conv types i)) (canon_all-at conv types values i e lt)
+      (holds-each conv types (canon_all conv types values) (e ∙ sym (length-canon_all conv types values e)) i lt));
 }
 
 -- the own bytes at a place, as a number

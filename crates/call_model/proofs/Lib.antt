@@ -1,3 +1,4 @@
 pub mod Conforming
+pub mod Counted
 pub mod Patterns
 pub mod PlacedFrames

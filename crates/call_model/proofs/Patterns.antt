@@ -1,16 +1,14 @@
 -- The bytes of a pattern, and the numbers that its low bytes make.
-use Rattle.std.proofs.Common.{◌≡◌, ℕ, suc, zero, ◌+◌, ◌*◌, ◌-◌, ◌/◌, ◌%◌, ◌^◌, ◌<◌, ◌≤◌, Bool, true, false, cond, nat_lt, add-one, ap, sym, ◌∙◌, refl, arith}
+use Rattle.std.proofs.Common.{◌≡◌, ℕ, suc, zero, ◌+◌, ◌*◌, ◌/◌, ◌%◌, ◌^◌, ◌<◌, ◌≤◌, add-one, ap, ◌∙◌, arith}
 use Rattle.std.proofs.lemmas.Nat.{mod-pow-add}
 use Rattle.std.proofs.Math.Nat.{mul-suc}
 use Rattle.std.proofs.lemmas.Grind.{common_steps}
 use Rattle.call_model.specs.declared.ctypes.CType.{CType}
-use Rattle.call_model.specs.declared.ctypes.CType.TheVariants.{I8, I16, I32, I64, U8, U16, U32, U64, F32, F64, Char, WChar, Ptr}
-use Rattle.call_model.specs.declared.ctypes.CType.TheVariants.{Bool as BoolType}
+use Rattle.call_model.specs.declared.ctypes.CType.TheVariants.{I8, I16, I32, I64, Ptr}
 use Rattle.call_model.specs.declared.places.Conv.{Conv}
 use Rattle.call_model.specs.declared.places.Conv.TheVariants.{SysV64, I386, Aapcs64, Ms64, Aapcs32}
-use Rattle.call_model.specs.Types.{is_signed}
 use Rattle.call_model.specs.Placement.{space_of, word_of}
-use Rattle.call_model.specs.Values.{own_len, sign_extended, extended, canon, pattern_byte, low_number}
+use Rattle.call_model.specs.Values.{own_len, extended, canon, pattern_byte, low_number}
 
 -- n + 1 low bytes are the low byte and n more above it
 low-bytes : (n v : ℕ) → v % 2 ^ (8 * suc n) ≡ v % 256 + 256 * (v / 256 % 2 ^ (8 * n))

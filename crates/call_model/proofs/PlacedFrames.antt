@@ -1,6 +1,6 @@
 -- What the frame of a call holds.
-use Rattle.std.proofs.Common.{◌≡◌, ◌≢◌, ℕ, suc, zero, ◌+◌, ◌*◌, ◌-◌, ◌<◌, ◌≤◌, Bool, true, false, cond, nat_eq, nat_lt, nat_le, ◌&&◌, ◌⊎◌, inl, inr, List, [], ◌∷◌, ◌++◌, length, length-append, take, drop, map, append_assoc, get_or, ap, subst, sym, ◌∙◌, refl, arith}
-use Rattle.std.specs.List.{fold, range_with_len, slice_index, slice_index_or}
+use Rattle.std.proofs.Common.{◌≡◌, ◌≢◌, ℕ, suc, ◌+◌, ◌-◌, ◌<◌, ◌≤◌, cond, nat_lt, nat_le, ◌&&◌, inl, inr, List, [], ◌∷◌, ◌++◌, length, take, drop, map, append_assoc, get_or, ap, subst, sym, ◌∙◌, refl, arith}
+use Rattle.std.specs.List.{fold, range_with_len, slice_index}
 use Rattle.std.proofs.lemmas.List.{append-nil, length-take-le, take-append-drop}
 use Rattle.std.proofs.Math.Seq.{drop-cons}
 use Rattle.std.proofs.lemmas.List.Sums.{fold-append}
@@ -17,7 +17,7 @@ use Rattle.call_model.specs.declared.places.Loc.{Loc}
 use Rattle.call_model.specs.declared.places.Loc.TheVariants.{Gpr, Fpr, Stack}
 use Rattle.call_model.specs.Placement.{place, place_at, type_at, space_of, stack_len_of, StandsBefore, IsWithin, gprs_of, fprs_of}
 use Rattle.call_model.specs.Laws.{places-apart, places-within}
-use Rattle.call_model.specs.Values.{Argument, FrameView, arguments, arguments_after, gpr_at, fpr_at, byte_at, gpr_of, fpr_of, byte_of, frame_of, pattern_byte, HoldsPattern, HoldsEach, Covers, IsZeroElsewhere}
+use Rattle.call_model.specs.Values.{Argument, arguments, arguments_after, gpr_at, fpr_at, byte_at, gpr_of, fpr_of, byte_of, frame_of, pattern_byte, HoldsPattern, HoldsEach, Covers, IsZeroElsewhere}
 
 -- the argument of this type and pattern after these types
 abbrev pub argument : Conv → (earlier : List CType) → CType → (pattern : ℕ) → Argument
@@ -31,7 +31,7 @@ arguments_after-append conv earlier (t ∷ types) more [] others e = absurd (ome
 arguments_after-append conv earlier (t ∷ types) more (p ∷ patterns) others e =
     ap (λ rest. argument conv earlier t p ∷ rest)
     (arguments_after-append conv (earlier ++ t ∷ []) types more patterns others (omega (arith, e))
-        ∙ ap (λ es. arguments_after conv (earlier ++ t ∷ []) types patterns ++ arguments_after conv es more others) (append_assoc earlier (t ∷ []) types))
+    ∙ ap (λ es. arguments_after conv (earlier ++ t ∷ []) types patterns ++ arguments_after conv es more others) (append_assoc earlier (t ∷ []) types))
 
 -- arguments after one keep what it put into a register or a byte, if no location after its own changes that
 pub fold-kept : (conv : Conv) (earlier : List CType) (t : CType) (between types : List CType) (patterns : List ℕ) (f : ℕ → Argument → ℕ) (start : ℕ) → ((other : ℕ) (a : Argument) → StandsBefore (place conv earlier t) (space_of conv t) a.at → f other a ≡ other) → fold f start (arguments_after conv (earlier ++ t ∷ between) types patterns) ≡ start
@@ -39,7 +39,7 @@ fold-kept conv earlier t between [] patterns f start keeps = refl
 fold-kept conv earlier t between (u ∷ types) [] f start keeps = refl
 fold-kept conv earlier t between (u ∷ types) (p ∷ patterns) f start keeps =
     let now : f start (argument conv (earlier ++ t ∷ between) u p) ≡ start
-        = keeps start (argument conv (earlier ++ t ∷ between) u p) (places-apart conv earlier t between u) in
+    = keeps start (argument conv (earlier ++ t ∷ between) u p) (places-apart conv earlier t between u) in
     ap (λ s. fold f s (arguments_after conv ((earlier ++ t ∷ between) ++ u ∷ []) types patterns)) now
     ∙ ap (λ es. fold f start (arguments_after conv es types patterns)) (append_assoc earlier (t ∷ between) (u ∷ []))
     ∙ fold-kept conv earlier t (between ++ u ∷ []) types patterns f start keeps
@@ -114,9 +114,9 @@ pub holds-each : (conv : Conv) → HoldsEach conv
 holds-each conv types patterns e i lt =
     let in_patterns : i < length patterns = omega (arith, e, lt) in
     let same_front : length (take i types) ≡ length (take i patterns)
-        = length-take-le i types (omega arith) ∙ sym (length-take-le i patterns (omega arith)) in
+    = length-take-le i types (omega arith) ∙ sym (length-take-le i patterns (omega arith)) in
     let frames : frame_of conv (take i types ++ type_at types i ∷ drop (suc i) types) (take i patterns ++ slice_index patterns i ∷ drop (suc i) patterns) ≡ frame_of conv types patterns
-        = ap (λ ts. frame_of conv ts (take i patterns ++ slice_index patterns i ∷ drop (suc i) patterns)) (split-at types i I8 lt) ∙ ap (frame_of conv types) (split-at patterns i 0 in_patterns) in
+    = ap (λ ts. frame_of conv ts (take i patterns ++ slice_index patterns i ∷ drop (suc i) patterns)) (split-at types i I8 lt) ∙ ap (frame_of conv types) (split-at patterns i 0 in_patterns) in
     subst (λ fr. HoldsPattern fr (space_of conv (type_at types i)) (slice_index patterns i) (place_at conv types i)) frames
     (holds-middle conv (take i types) (type_at types i) (drop (suc i) types) (take i patterns) (slice_index patterns i) (drop (suc i) patterns) same_front (place_at conv types i) refl)
 
@@ -126,10 +126,10 @@ fold-untouched conv earlier [] patterns f start leaves = refl
 fold-untouched conv earlier (t ∷ types) [] f start leaves = refl
 fold-untouched conv earlier (t ∷ types) (p ∷ patterns) f start leaves =
     let now : f start (argument conv earlier t p) ≡ start
-        = ap (λ es. f start (argument conv es t p)) (sym (append-nil earlier)) ∙ leaves 0 (omega arith) start p in
+    = ap (λ es. f start (argument conv es t p)) (sym (append-nil earlier)) ∙ leaves 0 (omega arith) start p in
     ap (λ s. fold f s (arguments_after conv (earlier ++ t ∷ []) types patterns)) now
     ∙ fold-untouched conv (earlier ++ t ∷ []) types patterns f start
-        (λ i lt other q. ap (λ es. f other (argument conv es (type_at types i) q)) (append_assoc earlier (t ∷ []) (take i types)) ∙ leaves (suc i) (omega (arith, lt)) other q)
+    (λ i lt other q. ap (λ es. f other (argument conv es (type_at types i) q)) (append_assoc earlier (t ∷ []) (take i types)) ∙ leaves (suc i) (omega (arith, lt)) other q)
 
 -- a pattern that is put elsewhere leaves a register or a byte alone
 gpr-untouched : (r n p : ℕ) (loc : Loc) → loc ≢ Gpr r → gpr_at r n loc p ≡ n
@@ -153,13 +153,13 @@ byte-untouched b n space p (Stack at) not_in = outside b n p at (at + space) (pa
 -- a list of what is zero up to n is zero at each place
 zero-at : (f : ℕ → ℕ) (n r : ℕ) → (r < n → f r ≡ 0) → get_or (map f (range_with_len 0 n)) r 0 ≡ 0
 zero-at f n r is = elim (cases_lt r n) [
-    inl lt ↦ get_or-map-range_with_len f 0 n r r 0 lt (omega arith) ∙ is lt
+  | inl lt ↦ get_or-map-range_with_len f 0 n r r 0 lt (omega arith) ∙ is lt
   | inr ge ↦ get_or_past (map f (range_with_len 0 n)) r 0 (omega (arith, ge, length-map-range_with_len f 0 n))
-  ]
+]
 
 pub is-zero-elsewhere : (conv : Conv) → IsZeroElsewhere conv
 is-zero-elsewhere conv = record {
   gprs_are = λ types patterns r none. zero-at (gpr_of (arguments conv types patterns)) 8 r (λ _. fold-untouched conv [] types patterns (λ other a. gpr_at r other a.at a.pattern) 0 (λ i lt other p. gpr-untouched r other p (place_at conv types i) (none i lt)));
   fprs_are = λ types patterns r none. zero-at (fpr_of (arguments conv types patterns)) 8 r (λ _. fold-untouched conv [] types patterns (λ other a. fpr_at r other a.at a.pattern) 0 (λ i lt other p. fpr-untouched r other p (place_at conv types i) (none i lt)));
-  stack_is = λ types patterns b none. zero-at (byte_of (arguments conv types patterns)) (stack_len_of conv types) b (λ _. fold-untouched conv [] types patterns (λ other a. byte_at b other a.at a.space a.pattern) 0 (λ i lt other p. byte-untouched b other (space_of conv (type_at types i)) p (place_at conv types i) (none i lt)))
+  stack_is = λ types patterns b none. zero-at (byte_of (arguments conv types patterns)) (stack_len_of conv types) b (λ _. fold-untouched conv [] types patterns (λ other a. byte_at b other a.at a.space a.pattern) 0 (λ i lt other p. byte-untouched b other (space_of conv (type_at types i)) p (place_at conv types i) (none i lt)));
 }

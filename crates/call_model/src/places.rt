@@ -93,3 +93,24 @@ pub fn overflow_bytes(gprs: u8, fprs: u8, integers: u16, floats: u16) -> u32
     let without_fpr = u32::from(floats.saturating_sub(u16::from(fprs)));
     8 * (without_gpr + without_fpr)
 }
+
+#[cfg(test)]
+mod tests {
+    use super::*;
+
+    #[test]
+    fn words_and_registers_are_those_of_the_standards(rt: HostRuntime) {
+        let standards = [
+            (Conv::SysV64, 8, 6, 8),
+            (Conv::I386, 4, 0, 0),
+            (Conv::Aapcs64, 8, 8, 8),
+            (Conv::Ms64, 8, 4, 4),
+            (Conv::Aapcs32, 4, 0, 0),
+        ];
+        for (conv, word, gprs, fprs) in standards {
+            assert_eq!(rt; word_of(conv), word);
+            assert_eq!(rt; gprs_of(conv), gprs);
+            assert_eq!(rt; fprs_of(conv), fprs);
+        }
+    }
+}
