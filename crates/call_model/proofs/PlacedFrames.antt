@@ -33,6 +33,11 @@ arguments_after-append conv earlier (t ∷ types) more (p ∷ patterns) others e
     (arguments_after-append conv (earlier ++ t ∷ []) types more patterns others (omega (arith, e))
     ∙ ap (λ es. arguments_after conv (earlier ++ t ∷ []) types patterns ++ arguments_after conv es more others) (append_assoc earlier (t ∷ []) types))
 
+-- the arguments with one more
+pub arguments-push : (conv : Conv) (types : List CType) (patterns : List ℕ) (t : CType) (p : ℕ) → length types ≡ length patterns → arguments conv (types ++ t ∷ []) (patterns ++ p ∷ []) ≡ arguments conv types patterns ++ argument conv types t p ∷ []
+arguments-push conv types patterns t p e =
+    arguments_after-append conv [] types (t ∷ []) patterns (p ∷ []) e
+
 -- arguments after one keep what it put into a register or a byte, if no location after its own changes that
 pub fold-kept : (conv : Conv) (earlier : List CType) (t : CType) (between types : List CType) (patterns : List ℕ) (f : ℕ → Argument → ℕ) (start : ℕ) → ((other : ℕ) (a : Argument) → StandsBefore (place conv earlier t) (space_of conv t) a.at → f other a ≡ other) → fold f start (arguments_after conv (earlier ++ t ∷ between) types patterns) ≡ start
 fold-kept conv earlier t between [] patterns f start keeps = refl
