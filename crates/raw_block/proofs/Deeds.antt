@@ -4,7 +4,7 @@
 --     Mark, mark, mark_made, mark_had      the field of a deed, which takes no bytes
 --     three, three_of              a tuple of three
 --     both_asked                   a `requires` that follows what the allocator's type asks of the lifetimes
-use Rattle.std.proofs.Common.{◌≡◌, ℕ, ◌*◌, ◌^◌, ◌<◌, List, [], ◌∷◌, ◌++◌, refl, subst, ap, ◌∙◌, arith}
+use Rattle.std.proofs.Common.{◌≡◌, ℕ, ◌^◌, ◌<◌, List, [], ◌∷◌, ◌++◌, refl, subst, ap, ◌∙◌, arith}
 use seplogic.Ra.Ura.{Ura}
 use mir.Syntax.{Args, Ty, a_type, dcons, dnil, ty_array}
 use mir.Raw.{raw as bare}

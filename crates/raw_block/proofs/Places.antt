@@ -3,13 +3,13 @@
 --     lent_laws, lends_run               what a `&` to a run holds can be had twice, and is made of a borrow
 --     none_had, none_made                such a value is taken, or made of nothing
 --     cut, glue, all_room, seen          the bytes apart from their room;  put back before more;  all of it as room;  as a `&` to the bytes reaches them
-use Rattle.std.proofs.Common.{◌≡◌, ℕ, zero, suc, ◌+◌, ◌^◌, ◌<◌, List, [], ◌∷◌, ◌++◌, length, refl, sym, arith}
+use Rattle.std.proofs.Common.{◌≡◌, ℕ, zero, suc, ◌+◌, List, [], ◌∷◌, ◌++◌, length, refl, arith}
 use seplogic.Ra.Ura.{Ura}
 use mir.Syntax.{Ty, ty_int, ty_array, w8}
-use mir.Val.{Val, vint, vstruct, vcons, vnil}
+use mir.Val.{Val, vint, vstruct, vnil}
 use base.Fraction.{full_share}
 use base.Logic.{ent, sep}
-use base.Fml.{Lft, ftrue, ffalse, fsep, fat, froom}
+use base.Fml.{ftrue, ffalse, fat, froom}
 use types.Logic.{Logic, sem}
 use types.Kit.{Goal, Seq, Step, step, Item, ‵, ◌⊛◌, ◌$◌, ◌∵◌, !, qed, by, move, drop, use1, use2, split, rewrite, fsplit, fjoin, fpick, fpack, feq_l, feq_i, done}
 use types.SemTy.{cells}

@@ -1,7 +1,7 @@
 -- What the parts of a block own, and what a `&` to them holds.
 use Rattle.std.specs.Prelude.{ℕ, ◌+◌, ◌^◌, List, [], ◌∷◌, length}
 use base.Fraction.{full_share}
-use base.Fml.{Lft, Fml, ftrue, ffalse, fsep, flt, froom}
+use base.Fml.{Lft, Fml, ffalse, fsep, flt, froom}
 use mir.Syntax.{Ty, ty_int, ty_array, w8}
 use mir.Raw.{raw}
 use denote.Builtin.{u8}

@@ -1,6 +1,6 @@
-ghost use Rattle.std.specs.Prelude.{◌≡◌, ℕ, ◌+◌, ◌≤◌, ◌++◌, ◌∷◌, [], length, take, drop, replicate, slice_range, IfOk};
+ghost use Rattle.std.specs.Prelude.{◌≡◌, ◌+◌, ◌≤◌, [], ◌∷◌, length, replicate, slice_index, slice_range, IfOk};
 ghost use Rattle.std.specs.Int.{from_le_bytes, to_le_bytes, w16, w32, w64};
-ghost use Rattle.raw_block.specs.Bytes.{number_at, overwritten};
+ghost use Rattle.raw_block.specs.Bytes.{overwritten};
 
 use crate::run::{Deed, Run, allocate, deallocate};
 use std::alloc::Global;
@@ -8,7 +8,7 @@ use std::marker::Model;
 use xp_base::Memory;
 
 /// The most bytes that a block can have.
-const MOST: usize = 0x7fff_ffff_ffff_ffff;
+const MOST: usize = isize::MAX as usize;
 
 /// A block of bytes in raw memory, which contracts see as the list of its bytes. Its length never changes, and the
 /// memory goes back when the block is dropped. Numbers in it are little-endian and may begin at any place.
@@ -65,7 +65,7 @@ impl Block {
     /// The byte at `at`.
     pub fn load1(&self, at: usize) -> u8
         requires { at + 1 ≤ length self.now }
-        ensures { result ≡ number_at self.now at 1 }
+        ensures { result ≡ slice_index self.now at }
     {
         self.all()[at]
     }
@@ -73,7 +73,7 @@ impl Block {
     /// The number of 2 bytes from `at` on.
     pub fn load2(&self, at: usize) -> u16
         requires { at + 2 ≤ length self.now }
-        ensures { result ≡ number_at self.now at 2 }
+        ensures { result ≡ from_le_bytes w16 (slice_range self.now at (at + 2)) }
     {
         u16::from_le_bytes(*self.bytes(at, 2).first_chunk::<2>().unwrap())
     }
@@ -81,7 +81,7 @@ impl Block {
     /// The number of 4 bytes from `at` on.
     pub fn load4(&self, at: usize) -> u32
         requires { at + 4 ≤ length self.now }
-        ensures { result ≡ number_at self.now at 4 }
+        ensures { result ≡ from_le_bytes w32 (slice_range self.now at (at + 4)) }
     {
         u32::from_le_bytes(*self.bytes(at, 4).first_chunk::<4>().unwrap())
     }
@@ -89,7 +89,7 @@ impl Block {
     /// The number of 8 bytes from `at` on.
     pub fn load8(&self, at: usize) -> u64
         requires { at + 8 ≤ length self.now }
-        ensures { result ≡ number_at self.now at 8 }
+        ensures { result ≡ from_le_bytes w64 (slice_range self.now at (at + 8)) }
     {
         u64::from_le_bytes(*self.bytes(at, 8).first_chunk::<8>().unwrap())
     }
@@ -97,9 +97,9 @@ impl Block {
     /// Writes the byte `v` at `at`, and changes no other byte.
     pub fn store1(&mut self, at: usize, v: u8)
         requires { at + 1 ≤ length self.old }
-        ensures { self.new ≡ overwritten self.old at (to_le_bytes w8 v) }
+        ensures { self.new ≡ overwritten self.old at (v ∷ []) }
     {
-        self.copy_in(at, &v.to_le_bytes());
+        self.copy_in(at, &[v]);
     }
 
     /// Writes the 2 bytes of `v` from `at` on, and changes no other byte.

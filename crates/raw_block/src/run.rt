@@ -54,13 +54,7 @@ pub(crate) fn allocate<A: Allocator>(
 }
 
 /// Gives the block back, whatever lies in it.
-pub(crate) fn deallocate<A: Allocator>(
-    alloc: &A,
-    ptr: *mut u8,
-    len: usize,
-    run: Run,
-    deed: Deed<A>,
-)
+pub(crate) fn deallocate<A: Allocator>(alloc: &A, ptr: *mut u8, len: usize, run: Run, deed: Deed<A>)
     requires { (run.ptr ≡ ptr) × (length run.items + run.room ≡ len) × (deed.ptr ≡ ptr) × (deed.len ≡ len) × (deed.alloc ≡ alloc.now) }
 {
     let Run {} = run;

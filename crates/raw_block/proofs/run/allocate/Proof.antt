@@ -1,20 +1,17 @@
 -- `allocate` keeps the new block as room, with the right to give it back. Assumes `Logic`.
-use Rattle.std.proofs.Common.{true, false, ◌≡◌, ℕ, ◌+◌, ◌*◌, ◌^◌, ◌<◌, List, [], ◌∷◌, ◌++◌, length, refl, sym, arith, IfOk, Ok, Err}
+use Rattle.std.proofs.Common.{true, false, ◌≡◌, ℕ, ◌+◌, ◌^◌, ◌<◌, List, [], ◌∷◌, ◌++◌, refl, arith, IfOk, Ok, Err}
 use lib.Dec.{lit<}
 use seplogic.Ra.Ura.{Ura}
-use mir.Syntax.{Args, Body, Fn, Ty, named, a_type, dcons, dnil, ty_array, w64}
+use mir.Syntax.{Body, Fn, named, ty_array, w64}
 use mir.MapTy.{inst_fn}
-use mir.Raw.{raw as bare}
-use mir.Val.{Val, vptr, vint, vstruct, vcons, vnil}
+use mir.Val.{Val, vptr, vint, vcons, vnil}
 use base.Logic.{SProp, ent}
 use base.Fml.{Lft, Share, Incl-trans, ftrue, flft}
-use prog.Capped.{capped_is}
-use prog.Memory.{Memory, size, align, capped}
+use prog.Memory.{Memory}
 use prog.Routine.{Routine}
-use prog.RawLaws.{size-raw, align-raw}
 use prog.Wp.{Env, Calls, Loops, Wp, WpFn, Tables, after_seq, at_return}
 use contract.BorrowLft.{◌⊑◌}
-use contract.Monad.{Fun, fact}
+use contract.Monad.{Fun}
 use contract.Running.{tables, tables_of}
 use sound.WpLaws.{WpFn-mono, FmC, fm_of}
 use types.Logic.{Logic}
@@ -27,7 +24,7 @@ use denote.Builtin.{usize, RawPtr, RefOf}
 use denote.Exit.{yes}
 use denote.Laws.{Is}
 use denote.Memory.{hidden_shr}
-use denote.Param.{layout, param, bounded}
+use denote.Param.{layout}
 use denote.RattleType.{RattleType, owns}
 use denote.RawPtr.{Ptr, block_ptr, ptr_val}
 use denote.Ref.{Bor, ShrRef}
@@ -42,7 +39,7 @@ use denote.Triple.Entry.{on_entry}
 use denote.Triple.Spec.{Meets, triple_of}
 use denote.Triple.Statement.{Triple}
 use denote.Triple.Table.{entered}
-use denote.Triple.Walked.{says, needs, Stays, stay_dropped, walk_of, ends_at, Goes-dropped, walk_Meets}
+use denote.Triple.Walked.{says, Stays, stay_dropped, walk_of, ends_at, Goes-dropped, walk_Meets}
 use Rattle.core.specs.contracts.alloc.AllocError as AllocError
 use Rattle.core.specs.contracts.result.Result as Result
 use Rattle.core.proofs.alloc.Calls.{Al, Answer-typed, takes_key, Takes, at_takes, Answered, Takes-goes, Takes-gives, answers}
@@ -50,7 +47,6 @@ use Rattle.std_alloc.proofs.RawLayout.{as_written}
 use Rattle.std_alloc.proofs.RcSteps.{Good, first_Good}
 use Rattle.std_alloc.proofs.ResultValues.{ok_of, err_of}
 use Rattle.std_alloc.proofs.VecSteps.Shapes.{after, head, arm_body}
-use Rattle.raw_block.specs.Ownership.{bytes_at}
 use Rattle.raw_block.proofs.Places.{row, place, none, none_made}
 use Rattle.raw_block.proofs.Deeds.{args, P, deed_row, block_of_bytes, block_size, block_align, Mark, mark, mark_made, three, three_of, both_asked}
 use Rattle.raw_block.specs.contracts.run.allocate as F

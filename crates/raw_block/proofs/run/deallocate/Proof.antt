@@ -1,5 +1,5 @@
 -- `deallocate` makes room of all the bytes, and hands it back with the token. Assumes `Logic`.
-use Rattle.std.proofs.Common.{◌≡◌, ℕ, ◌+◌, ◌^◌, ◌<◌, List, [], ◌∷◌, ◌++◌, length, refl, sym, subst, ◌∙◌, arith}
+use Rattle.std.proofs.Common.{◌≡◌, ℕ, ◌+◌, ◌^◌, ◌<◌, List, [], ◌∷◌, ◌++◌, length, refl, sym, subst, ◌∙◌}
 use lib.Dec.{T, lit<}
 use seplogic.Ra.Ura.{Ura}
 use base.Fraction.{full_share}
@@ -19,7 +19,7 @@ use types.Logic.{Logic}
 use types.Kit.{Item, ⋆, ‵, prop, raw, ◌⊛◌, given, later, await, learn, at_ret, ◌$◌, ◌∵◌, !, qed, by, move, keep, use1, split, join, group, fsplit, fsplit3, fjoin, feq_i, feq_l, flt_l, regoal, rewrite, suffices, done}
 use types.Run.{lit, of_opd, unit_lit, and_then, no_more, first, blocks, exec, returns, enter}
 use types.ByLocal.{alloc_all, pass_all, free_all, look_at, get, sets, lands_last, take_at, give_at, env}
-use denote.Builtin.{usize, unit, RawPtr, RefOf}
+use denote.Builtin.{usize, RawPtr, RefOf}
 use denote.Exit.{yes, no}
 use denote.Memory.{hidden_shr}
 use denote.RattleType.{owns}

@@ -17,7 +17,7 @@ use types.Kit.{‵, raw, ◌⊛◌, prop, at_ret, ◌$◌, ◌∵◌, !, qed, mo
 use types.Run.{init, stop, unit_lit, of_opd, bin, assigns_last, first, blocks, exec, returns, enter}
 use types.ByLocal.{alloc_all, pass_all, free_all, look_at, get, through, sets, take_at, give_at, env}
 use types.SemTy.{cells}
-use denote.Builtin.{u8, usize, unit, RawPtr}
+use denote.Builtin.{u8, usize, RawPtr}
 use denote.Exit.{yes}
 use denote.Memory.{mem, part_at}
 use denote.Plain.{uint_in}

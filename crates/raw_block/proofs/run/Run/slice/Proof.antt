@@ -1,5 +1,5 @@
 -- `slice` reaches the items behind a `&`. Assumes `Logic`.
-use Rattle.std.proofs.Common.{◌≡◌, ℕ, ◌+◌, ◌*◌, ◌^◌, ◌<◌, List, [], ◌∷◌, ◌++◌, length, refl, sym, ap, ◌∙◌, arith}
+use Rattle.std.proofs.Common.{◌≡◌, ◌*◌, ◌^◌, List, [], ◌∷◌, ◌++◌, length, refl, sym, ap, ◌∙◌, arith}
 use seplogic.Ra.Ura.{Ura}
 use base.Fraction.{full_share}
 use mir.Syntax.{Fn, ty_ptr, w64}
@@ -17,7 +17,7 @@ use types.Kit.{‵, raw, ◌⊛◌, prop, at_ret, ◌$◌, ◌∵◌, !, qed, mo
 use types.Part.{agg}
 use types.Run.{of_opd, and_then, no_more, first, blocks, exec, returns, enter}
 use types.ByLocal.{alloc_all, pass_all, free_all, look_at, get, sets, sets_last, take_at, give_at, env}
-use denote.Builtin.{u8, usize, RawPtr, RefOf}
+use denote.Builtin.{usize, RawPtr, RefOf}
 use denote.Exit.{yes}
 use denote.Opens.{unhide, hide}
 use denote.RattleType.{owns}
