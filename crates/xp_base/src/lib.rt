@@ -2,10 +2,26 @@
 //! and the traits by which files are fetched and texts are written, with their memory objects and adapters.
 #![tactic(auto)]
 
+mod adapters;
 mod byte_list;
 mod errors;
+mod kinds;
+mod memory_sinks;
+mod memory_sources;
+mod named_file;
+mod run_faults;
+mod sinks;
+mod sources;
 mod value_list;
 
+pub use adapters::{FileSource, StderrSink, StdoutSink, StreamSink};
 pub use byte_list::Bytes;
 pub use errors::Memory;
+pub use kinds::{ConstKind, Dir};
+pub use memory_sinks::{CalmSink, MemSink};
+pub use memory_sources::{CalmSource, MemSource};
+pub use named_file::NamedFile;
+pub use run_faults::RunFault;
+pub use sinks::{Sink, SinkError, put_all};
+pub use sources::{Fetched, MAX_FETCH, Source, SourceError};
 pub use value_list::List;
