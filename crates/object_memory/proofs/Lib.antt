@@ -1,3 +1,6 @@
+pub mod Access
 pub mod Digits
+pub mod Growth
 pub mod Lists
 pub mod Puts
+pub mod Search

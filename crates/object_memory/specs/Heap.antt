@@ -30,3 +30,17 @@ image conv heap = vtable conv ++ blocks_image conv heap
 -- where the block after these stands
 abbrev pub end_of : Conv → List Content → ℕ
 end_of conv heap = VTABLE_AT + length (image conv heap)
+
+-- the machine after a data block was added
+abbrev pub with_data : MachineView → List ℕ → MachineView
+with_data m bytes = record m {
+  memory = m.memory ++ padded bytes;
+  blocks = m.blocks ++ record { address = VTABLE_AT + length m.memory; length = length bytes } ∷ [];
+}
+
+-- the machine after an object was added, whose number is the count of those before it
+abbrev pub with_object : MachineView → MachineView
+with_object m = record m {
+  memory = m.memory ++ padded (content_bytes m.conv (Object (length m.objects)));
+  objects = m.objects ++ (VTABLE_AT + length m.memory) ∷ [];
+}

@@ -6,6 +6,7 @@ use Rattle.call_model.specs.Placement.{word_of}
 use Rattle.call_model.specs.Values.{FrameView}
 use Rattle.object_memory.specs.declared.data_block.DataBlock.{DataBlock}
 use Rattle.object_memory.specs.declared.layout.TheConstants.{VTABLE_AT, CELLS_AT}
+use Rattle.raw_block.specs.Bytes.{overwritten}
 use Rattle.object_memory.specs.Numbers.{number_of}
 use Rattle.object_memory.specs.Layout.{vtable, vtable_space}
 
@@ -76,3 +77,10 @@ word_at m at = number_at m at (word_of m.conv)
 -- the entry of a slot: the word at the word at `this` and so many words further
 abbrev pub entry_at : MachineView → (this slot : ℕ) → Option ℕ
 entry_at m this slot = option_and_then (λ table. word_at m (table + word_of m.conv * slot)) (word_at m this)
+
+-- the machine after bytes were written at an address, where they can be
+abbrev pub written : MachineView → ℕ → List ℕ → MachineView
+written m at bytes =
+    if is_within VTABLE_AT m.memory at (length bytes) then record m { memory = overwritten m.memory (at - VTABLE_AT) bytes }
+    else if is_within CELLS_AT m.cells at (length bytes) then record m { cells = overwritten m.cells (at - CELLS_AT) bytes }
+    else m

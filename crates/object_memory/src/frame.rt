@@ -3,7 +3,7 @@ ghost use Rattle.call_model.specs.declared.places.Loc.TheVariants.{Gpr as GprAt,
 ghost use Rattle.object_memory.specs.Frames.{IsPlace, Puts};
 ghost use Rattle.object_memory.specs.Numbers.{bytes_of};
 
-use crate::blocks::{put_low_bytes, zero};
+use crate::blocks::{block_of, put_low_bytes, zero};
 use crate::layout::STACK_LIMIT;
 use crate::width::Width;
 use call_model::Loc;
@@ -42,7 +42,7 @@ impl Frame {
     pub(crate) fn new(alloc: Global) -> Result<Frame, Memory>
         ensures { IfOk result (λ frame. frame ≡ empty_frame) }
     {
-        let bytes = Block::new(alloc, STACK_LIMIT as usize)?;
+        let bytes = block_of(alloc, STACK_LIMIT as usize)?;
         Ok(Frame {
             gprs: [0; 8],
             fprs: [0; 8],

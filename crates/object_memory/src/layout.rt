@@ -19,6 +19,14 @@ pub const HEAP_LIMIT: usize = 16_777_216;
 /// The most bytes that the stack of a frame can have.
 pub const STACK_LIMIT: u32 = 4_096;
 
+/// The entry address of a slot.
+pub(crate) fn entry_of(slot: usize) -> u64
+    requires { slot < SLOTS }
+    ensures { result ≡ Layout.entry_of slot }
+{
+    0x1000 + 16 * slot as u64
+}
+
 /// The space that a block of `n` bytes occupies: `n` rounded up to 16, and at least 16.
 pub(crate) fn space_for(n: usize) -> usize
     requires { n < 2 ^ 63 }
