@@ -14,10 +14,10 @@ use Rattle.object_memory.specs.WellFormed.{HasSpare, IsWellFormed}
 use Rattle.object_memory.proofs.Digits.{length-low_bytes}
 use Rattle.object_memory.proofs.Lists.{length-overwritten, take-overwritten, drop-overwritten}
 
-both_true : (a b c d : ℕ) → a ≤ b → c ≤ d → (nat_le a b && nat_le c d) ≡ true
+pub both_true : (a b c d : ℕ) → a ≤ b → c ≤ d → (nat_le a b && nat_le c d) ≡ true
 both_true a b c d p q = grind (arith, common_steps)
 
-both_false : (a b c d : ℕ) → (a ≤ b → c ≤ d → ⊥) → (nat_le a b && nat_le c d) ≡ false
+pub both_false : (a b c d : ℕ) → (a ≤ b → c ≤ d → ⊥) → (nat_le a b && nat_le c d) ≡ false
 both_false a b c d fails = grind (arith, common_steps, fails)
 
 pub bytes_at-memory : (m : MachineView) (at n : ℕ) → InMemory m at n → bytes_at m at n ≡ Some (slice_range m.memory (at - VTABLE_AT) (at - VTABLE_AT + n))
@@ -122,5 +122,13 @@ well_formed-written conv heap new used blocks objects cells pushed place ys ok e
     let same : length new ≡ length heap = ap length is ∙ length-overwritten heap place ys within in
     record {
       spare = record { fits = omega (arith, ok.spare.fits, same); zeros = ap (λ l. drop used l) is ∙ drop-overwritten heap place ys within used end ∙ ok.spare.zeros ∙ zeros_left heap new used same };
-      starts = ok.starts; limited = ok.limited; counted = ok.counted; placed = ok.placed; apart = ok.apart; below = ok.below; rising = ok.rising; all_cells = ok.all_cells; in_cells = ok.in_cells;
+      starts = ok.starts;
+      limited = ok.limited;
+      counted = ok.counted;
+      placed = ok.placed;
+      apart = ok.apart;
+      below = ok.below;
+      rising = ok.rising;
+      all_cells = ok.all_cells;
+      in_cells = ok.in_cells;
     }

@@ -107,7 +107,16 @@ module _ (conv : Conv) (h : List ℕ) (u : ℕ) (blocks : List DataBlock) (objec
   -- the heap has grown, and nothing is added yet
   pub well_formed-grown : (g : List ℕ) (more : ℕ) → Grown h g u more → IsWellFormed conv g u blocks objects cells pushed
   well_formed-grown g more grown = record {
-    spare = grown.spare; starts = ok.starts; limited = ok.limited; counted = ok.counted; placed = ok.placed; apart = ok.apart; below = ok.below; rising = ok.rising; all_cells = ok.all_cells; in_cells = ok.in_cells;
+    spare = grown.spare;
+    starts = ok.starts;
+    limited = ok.limited;
+    counted = ok.counted;
+    placed = ok.placed;
+    apart = ok.apart;
+    below = ok.below;
+    rising = ok.rising;
+    all_cells = ok.all_cells;
+    in_cells = ok.in_cells;
   }
 
   module _ (g xs : List ℕ) (space : ℕ) (grown : Grown h g u space) (short : length xs ≤ space) (at_least : 16 ≤ space) (limited : u + space ≤ vtable_space conv + HEAP_LIMIT) where

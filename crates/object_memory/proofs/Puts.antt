@@ -60,8 +60,8 @@ puts_stack gprs fprs bytes len at n v enough within =
       gpr = λ r lt. refl;
       fpr = λ r lt. refl;
       byte = λ b lt. let low : b < len = omega (arith, lt, length-take len bytes) in
-        get_or-take len written b 0 low ∙ byte_put bytes at n v b (omega (arith, enough, within))
-        ∙ ap (λ x. cond (nat_le at b && nat_lt b (at + n)) (pattern_byte v (b - at)) x) (sym (get_or-take len bytes b 0 low));
+          get_or-take len written b 0 low ∙ byte_put bytes at n v b (omega (arith, enough, within))
+          ∙ ap (λ x. cond (nat_le at b && nat_lt b (at + n)) (pattern_byte v (b - at)) x) (sym (get_or-take len bytes b 0 low));
     }
 
 -- the same of a frame that has these registers and bytes

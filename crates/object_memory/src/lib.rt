@@ -8,6 +8,8 @@ mod errors;
 mod frame;
 mod layout;
 mod machine;
+#[cfg(test)]
+mod tests;
 mod width;
 
 pub use data_block::DataBlock;

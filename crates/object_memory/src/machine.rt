@@ -1,13 +1,15 @@
-ghost use Rattle.std.specs.Prelude.{◌≡◌, ◌+◌, ◌-◌, ◌*◌, ◌<◌, ◌≤◌, ◌++◌, ◌↔◌, [], length, take, replicate, slice_get, Some, IfOk, IfSome, IsSome, IsTrue, OnErr, Contains};
+ghost use Rattle.std.specs.Prelude.{◌≡◌, ◌+◌, ◌-◌, ◌*◌, ◌<◌, ◌≤◌, ◌++◌, ◌↔◌, List, [], ◌∷◌, length, take, replicate, slice_get, Some, IfOk, IfSome, IsSome, IsTrue, OnErr, Contains};
 ghost use Rattle.std.specs.Option.{option_copied};
 ghost use Rattle.std.specs.Borrow.{sem};
 ghost use Rattle.call_model.specs.Placement;
-ghost use Rattle.object_memory.specs.Heap.{with_data, with_object};
+ghost use Rattle.object_memory.specs.Heap.{Content, Data, Holds, Object, heap_after, with_data, with_object};
 ghost use Rattle.object_memory.specs.Layout;
-ghost use Rattle.object_memory.specs.Memory.{Inside, IsReadable, bytes_at, entry_at, new_machine, number_at, occupied, written};
+ghost use Rattle.object_memory.specs.Memory.{InMemory, Inside, IsReadable, bytes_at, entry_at, new_machine, number_at, occupied, written};
 ghost use Rattle.object_memory.specs.Numbers.{bytes_of, low_bytes};
 
-use crate::blocks::{block_of, count_up_to, find_space, note, number_in, place_in, put_low_bytes, vtable, zero};
+use crate::blocks::{
+    block_of, count_up_to, find_space, note, number_in, place_in, put_low_bytes, vtable, zero,
+};
 use crate::data_block::DataBlock;
 use crate::errors::HeapError;
 use crate::frame::Frame;
@@ -54,7 +56,8 @@ impl Machine {
     /// A machine with its vtable, an empty heap, no pushed cell, and a frame of zeros with an empty stack. The one error
     /// is want of memory.
     pub fn new(alloc: Global, conv: Conv) -> Result<Machine, Memory>
-        ensures { IfOk result (λ machine. machine ≡ new_machine conv) }
+        ensures fresh { IfOk result (λ machine. machine ≡ new_machine conv) }
+        ensures holds { IfOk result (λ machine. Holds machine []) }
     {
         let heap = vtable(alloc, word_of(conv) as usize)?;
         let cells = block_of(alloc, 8 * MOST_CELLS as usize)?;
@@ -91,6 +94,7 @@ impl Machine {
     pub fn add_block(&mut self, bytes: &[u8]) -> Result<u64, HeapError>
         ensures address { IfOk result (λ address. address ≡ VTABLE_AT + length self.old.memory) }
         ensures added { IfOk result (λ _. self.new ≡ with_data self.old bytes.now) }
+        ensures holds { IfOk result (λ _. (heap : List Content) → Holds self.old heap → Holds self.new (heap ++ Data bytes.now ∷ [])) }
         ensures full { (result ≡ Err HeapError.Full) ↔ (HEAP_LIMIT < occupied self.old + Layout.space_for (length bytes.now)) }
         ensures err { OnErr result (self.new ≡ self.old) }
     {
@@ -114,6 +118,7 @@ impl Machine {
     pub fn add_object(&mut self) -> Result<u64, HeapError>
         ensures address { IfOk result (λ address. address ≡ VTABLE_AT + length self.old.memory) }
         ensures added { IfOk result (λ _. self.new ≡ with_object self.old) }
+        ensures holds { IfOk result (λ _. (heap : List Content) → Holds self.old heap → Holds self.new (heap ++ Object (length self.old.objects) ∷ [])) }
         ensures full { (result ≡ Err HeapError.Full) ↔ (HEAP_LIMIT < occupied self.old + 16) }
         ensures err { OnErr result (self.new ≡ self.old) }
     {
@@ -177,6 +182,7 @@ impl Machine {
     pub fn store(&mut self, at: u64, width: Width, v: u64) -> bool
         ensures readable { IsTrue result ↔ IsReadable self.old at (bytes_of width) }
         ensures stored { self.new ≡ written self.old at (low_bytes (bytes_of width) v) }
+        ensures holds { Inside self.old.blocks at (bytes_of width) → (heap : List Content) → Holds self.old heap → Holds self.new (heap_after self.old.conv heap at (low_bytes (bytes_of width) v)) }
     {
         let n = width.bytes();
         if let Some(place) = place_in(VTABLE_AT, self.used, at, n) {
@@ -219,7 +225,8 @@ impl Machine {
 
     /// Whether there is a byte at least, and all lie in one data block.
     pub fn in_block(&self, at: u64, n: u64) -> bool
-        ensures { IsTrue result ↔ Inside self.now.blocks at n }
+        ensures inside { IsTrue result ↔ Inside self.now.blocks at n }
+        ensures in_memory { IsTrue result → InMemory self.now at n }
     {
         let before = count_up_to(&self.blocks, at);
         if n == 0 || before == 0 {

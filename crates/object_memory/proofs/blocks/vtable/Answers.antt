@@ -16,7 +16,7 @@ loop-slot-preserved c =
     let long : length c.in_ok-block.block ≡ space_for (SLOTS * c.args.word) = ap length (c.in_ok-block.ensures ∙ ap (λ k. replicate k 0) c.space_for.ensures) ∙ length-replicate (space_for (SLOTS * c.args.word)) 0 in
     record {
       words = c.put_low_bytes.ensures.written ∙ ap (λ l. overwritten l (c.loop-slot.slot * c.args.word) (low_bytes c.args.word c.entry_of.result)) c.loop-slot.invariant.words
-        ∙ words_next c.in_ok-block.block c.args.word c.loop-slot.slot c.entry_of.result c.loop-slot-test.true long c.entry_of.ensures;
+          ∙ words_next c.in_ok-block.block c.args.word c.loop-slot.slot c.entry_of.result c.loop-slot-test.true long c.entry_of.ensures;
       same_length = c.put_low_bytes.ensures.same_length ∙ c.loop-slot.invariant.same_length;
     }
 

@@ -3,11 +3,12 @@ use Rattle.std.proofs.Common.{◌≡◌, ◌≤◌, ◌+◌, ◌*◌, [], ◌∷
 use Rattle.std.proofs.lemmas.List.{length-take-le}
 use Rattle.object_memory.specs.declared.data_block.DataBlock.{DataBlock}
 use Rattle.object_memory.specs.declared.layout.TheConstants.{VTABLE_AT, SLOTS, HEAP_LIMIT}
-use Rattle.object_memory.specs.Heap.{with_data}
+use Rattle.object_memory.specs.Heap.{Data, Holds, with_data}
 use Rattle.object_memory.specs.Layout.{space_for, padded, vtable_space}
 use Rattle.object_memory.specs.Memory.{MachineView}
 use Rattle.object_memory.specs.WellFormed.{IsWellFormed}
 use Rattle.raw_block.specs.Bytes.{overwritten}
+use Rattle.object_memory.proofs.Held.{holds-data}
 use Rattle.object_memory.proofs.Growth.{well_formed-data, added_memory}
 use Rattle.object_memory.proofs.machine.Machine.add_block.Goals as goal
 
@@ -27,3 +28,7 @@ returns-clause-added c =
     let memory : take (f.used + space) c.copy_in.new.self ≡ take f.used f.heap ++ padded xs = added_memory f.heap g c.copy_in.new.self xs f.used space found.2 c.copy_in.ensures found.0 in
     (λ i. record { conv = f.conv; memory = memory i; blocks = (c.in_ok-note.ensures.ok ∙ ap (λ k. f.blocks.items ++ record { address = VTABLE_AT + k; length = length xs } ∷ []) long) i; objects = f.objects.items; cells = take (8 * f.pushed) f.cells; frame = f.frame })
     ∙ ap (λ (m : MachineView). with_data m xs) c.self.view_is
+
+pub returns-clause-holds : goal.returns-clause-holds
+returns-clause-holds c = λ heap held.
+    subst (λ (m : MachineView). Holds m (heap ++ Data c.args.bytes.now ∷ [])) (sym (returns-clause-added c)) (holds-data c.args.self.now heap c.args.bytes.now held)

@@ -3,11 +3,12 @@ use Rattle.std.proofs.Common.{◌≡◌, ◌≤◌, ◌+◌, ◌*◌, [], ◌∷
 use Rattle.std.proofs.lemmas.List.{length-take-le}
 use Rattle.call_model.specs.Placement.{word_of}
 use Rattle.object_memory.specs.declared.layout.TheConstants.{VTABLE_AT, SLOTS, HEAP_LIMIT}
-use Rattle.object_memory.specs.Heap.{Object, content_bytes, with_object}
+use Rattle.object_memory.specs.Heap.{Holds, Object, content_bytes, with_object}
 use Rattle.object_memory.specs.Layout.{space_for, padded, vtable_space}
 use Rattle.object_memory.specs.Memory.{MachineView}
 use Rattle.object_memory.specs.WellFormed.{IsWellFormed}
 use Rattle.raw_block.specs.Bytes.{overwritten}
+use Rattle.object_memory.proofs.Held.{holds-object}
 use Rattle.object_memory.proofs.Growth.{well_formed-object, added_memory, object_len, two_words}
 use Rattle.object_memory.proofs.machine.Machine.add_object.Goals as goal
 
@@ -36,3 +37,7 @@ returns-clause-added c =
     let memory : take (f.used + space) new ≡ take f.used f.heap ++ padded xs = added_memory f.heap g new xs f.used space found.2 made size in
     (λ i. record { conv = f.conv; memory = (memory ∙ ap (λ k. take f.used f.heap ++ padded (content_bytes f.conv (Object k))) counted) i; blocks = f.blocks.items; objects = (c.in_ok-note.ensures.ok ∙ ap (λ k. f.objects.items ++ (VTABLE_AT + k) ∷ []) long) i; cells = take (8 * f.pushed) f.cells; frame = f.frame })
     ∙ ap (λ (m : MachineView). with_object m) c.self.view_is
+
+pub returns-clause-holds : goal.returns-clause-holds
+returns-clause-holds c = λ heap held.
+    subst (λ (m : MachineView). Holds m (heap ++ Object (length c.args.self.now.objects) ∷ [])) (sym (returns-clause-added c)) (holds-object c.args.self.now heap held)

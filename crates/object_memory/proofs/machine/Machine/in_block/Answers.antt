@@ -9,8 +9,8 @@ use Rattle.object_memory.specs.WellFormed.{EndsBefore}
 use Rattle.object_memory.proofs.Search.{none_inside, inside_answer, last_begins, holds_if, holds_then, too_long}
 use Rattle.object_memory.proofs.machine.Machine.in_block.Goals as goal
 
-pub returns-then-n-eq0 : goal.returns-then-n-eq0
-returns-then-n-eq0 c =
+pub returns-then-n-eq0-clause-inside : goal.returns-then-n-eq0-clause-inside
+returns-then-n-eq0-clause-inside c =
     let xs = c.deref.result.now in let at = c.args.at in let n = c.args.n in let before = c.count_up_to-before.result in
     let same : xs ≡ c.args.self.now.blocks = c.deref.ensures.value ∙ ap (λ (k : MachineView). k.blocks) c.self.view_is in
     let apart = subst (AllPairs EndsBefore) (sym c.deref.ensures.value) c.self.invariant.apart in
@@ -25,8 +25,8 @@ overflow_sub-result c =
     let is : b ≡ get_or xs (before - 1) b = c.index-block.ensures ∙ ap (λ l. get_or l (before - 1) b) (sym c.deref.ensures.value) in
     subst (λ (k : DataBlock). k.address ≤ at) (sym is) (last_begins xs at c.args.n before apart c.count_up_to-before.ensures.bound c.count_up_to-before.ensures.point b some)
 
-pub returns-then-n-length : goal.returns-then-n-length
-returns-then-n-length c =
+pub returns-then-n-length-clause-inside : goal.returns-then-n-length-clause-inside
+returns-then-n-length-clause-inside c =
     let xs = c.deref.result.now in let at = c.args.at in let n = c.args.n in let before = c.count_up_to-before.result in let b = c.index-block.result.now in
     let same : xs ≡ c.args.self.now.blocks = c.deref.ensures.value ∙ ap (λ (k : MachineView). k.blocks) c.self.view_is in
     let apart = subst (AllPairs EndsBefore) (sym c.deref.ensures.value) c.self.invariant.apart in
@@ -37,8 +37,8 @@ returns-then-n-length c =
     subst (λ l. IsTrue r ↔ Inside l at n) same
     (inside_answer xs at n before apart c.count_up_to-before.ensures.bound c.count_up_to-before.ensures.point b b r is some one (holds_if at n b low c.if-n-length.true) (holds_then at n b c.if-n-length.true))
 
-pub returns-else-n-length : goal.returns-else-n-length
-returns-else-n-length c =
+pub returns-else-n-length-clause-inside : goal.returns-else-n-length-clause-inside
+returns-else-n-length-clause-inside c =
     let xs = c.deref.result.now in let at = c.args.at in let n = c.args.n in let before = c.count_up_to-before.result in let b = c.index-block.result.now in
     let same : xs ≡ c.args.self.now.blocks = c.deref.ensures.value ∙ ap (λ (k : MachineView). k.blocks) c.self.view_is in
     let apart = subst (AllPairs EndsBefore) (sym c.deref.ensures.value) c.self.invariant.apart in

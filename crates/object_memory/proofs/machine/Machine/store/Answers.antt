@@ -2,8 +2,10 @@
 use Rattle.std.proofs.Common.{ℕ, ◌+◌, ◌*◌, ◌≤◌, length, take, subst, ap, ◌∙◌, sym, arith}
 use Rattle.raw_block.specs.Bytes.{overwritten}
 use Rattle.object_memory.specs.declared.layout.TheConstants.{VTABLE_AT, CELLS_AT}
-use Rattle.object_memory.specs.Memory.{MachineView, InMemory, InCells, written}
+use Rattle.object_memory.specs.Heap.{Holds, heap_after}
+use Rattle.object_memory.specs.Memory.{MachineView, Inside, InMemory, InCells, written}
 use Rattle.object_memory.specs.Numbers.{bytes_of, low_bytes}
+use Rattle.object_memory.proofs.Held.{holds-written}
 use Rattle.object_memory.proofs.Digits.{length-low_bytes}
 use Rattle.object_memory.proofs.Access.{IsFound, none_found, out_of_memory, out_of_cells, write_memory, write_cells, write_nowhere, well_formed-written}
 use Rattle.object_memory.proofs.machine.Machine.store.Goals as goal
@@ -41,3 +43,21 @@ returns-clause-stored c =
     let out = out_of_memory m c.args.at n f.heap f.used (ap (λ (k : MachineView). k.memory) c.self.view_is) c.self.invariant.spare.fits away in
     let off = out_of_cells m c.args.at n f.cells (8 * f.pushed) (ap (λ (k : MachineView). k.cells) c.self.view_is) fits far in
     write_nowhere m c.args.at n c.args.v out off ∙ ap (λ k. written m c.args.at (low_bytes k c.args.v)) c.bytes-n.ensures
+
+pub returns-in-Some-clause-holds : goal.returns-in-Some-clause-holds
+returns-in-Some-clause-holds c = λ inside heap held.
+    let low = low_bytes (bytes_of c.args.width) c.args.v in
+    subst (λ (m : MachineView). Holds m (heap_after c.args.self.now.conv heap c.args.at low)) (sym (returns-in-Some-clause-stored c))
+    (holds-written c.args.self.now heap c.args.at low (subst (λ k. Inside c.args.self.now.blocks c.args.at k) (sym (length-low_bytes (bytes_of c.args.width) c.args.v)) inside) held)
+
+pub returns-in-Some-place_in-clause-holds : goal.returns-in-Some-place_in-clause-holds
+returns-in-Some-place_in-clause-holds c = λ inside heap held.
+    let low = low_bytes (bytes_of c.args.width) c.args.v in
+    subst (λ (m : MachineView). Holds m (heap_after c.args.self.now.conv heap c.args.at low)) (sym (returns-in-Some-place_in-clause-stored c))
+    (holds-written c.args.self.now heap c.args.at low (subst (λ k. Inside c.args.self.now.blocks c.args.at k) (sym (length-low_bytes (bytes_of c.args.width) c.args.v)) inside) held)
+
+pub returns-clause-holds : goal.returns-clause-holds
+returns-clause-holds c = λ inside heap held.
+    let low = low_bytes (bytes_of c.args.width) c.args.v in
+    subst (λ (m : MachineView). Holds m (heap_after c.args.self.now.conv heap c.args.at low)) (sym (returns-clause-stored c))
+    (holds-written c.args.self.now heap c.args.at low (subst (λ k. Inside c.args.self.now.blocks c.args.at k) (sym (length-low_bytes (bytes_of c.args.width) c.args.v)) inside) held)
