@@ -1,6 +1,6 @@
 -- What stands at the place of an argument: the pattern of a value, the frame that holds the values of a call, which
 -- frames hold given values as the convention asks, and which values a frame gives to the one who is called.
-use Rattle.std.specs.Prelude.{◌≡◌, ℕ, suc, zero, ◌+◌, ◌*◌, ◌-◌, ◌/◌, ◌%◌, ◌^◌, ◌<◌, ◌≤◌, nat_lt, nat_le, nat_eq, ◌&&◌, List, [], ◌∷◌, ◌++◌, length, map, fold, slice_index, if◌then◌else◌}
+use Rattle.std.specs.Prelude.{◌≡◌, ◌≢◌, ℕ, suc, zero, ◌+◌, ◌*◌, ◌-◌, ◌/◌, ◌%◌, ◌^◌, ◌<◌, ◌≤◌, nat_lt, nat_le, nat_eq, ◌&&◌, List, [], ◌∷◌, ◌++◌, length, map, fold, slice_index, if◌then◌else◌}
 use Rattle.std.specs.List.{range_with_len}
 use Rattle.call_model.specs.declared.ctypes.CType.{CType}
 use Rattle.call_model.specs.declared.ctypes.CType.TheVariants.{I8, I16, I32, I64, U8, U16, U32, U64, F32, F64, Char, WChar, Ptr}
@@ -115,6 +115,28 @@ frame_of conv types patterns = record {
 abbrev pub placed : Conv → List CType → List ℕ → FrameView
 placed conv types values = frame_of conv types (canon_all conv types values)
 
+-- the pattern stands whole at the location: in the register, or in every byte of its space on the stack
+abbrev pub HoldsPattern : FrameView → (space p : ℕ) → Loc → Type 0
+HoldsPattern frame space p (Gpr r) = slice_index frame.gprs r ≡ p
+HoldsPattern frame space p (Fpr r) = slice_index frame.fprs r ≡ p
+HoldsPattern frame space p (Stack at) = (k : ℕ) → k < space → slice_index frame.stack (at + k) ≡ pattern_byte p k
+
+-- the frame of patterns holds each of them at the place of its type
+abbrev pub HoldsEach : Conv → Type 0
+HoldsEach conv = (types : List CType) (patterns : List ℕ) → length types ≡ length patterns → (i : ℕ) → i < length types → HoldsPattern (frame_of conv types patterns) (space_of conv (type_at types i)) (slice_index patterns i) (place_at conv types i)
+
+-- whether byte b of the stack belongs to the location and its space
+abbrev pub Covers : Loc → (space b : ℕ) → Type 0
+Covers (Gpr r) space b = ⊥
+Covers (Fpr r) space b = ⊥
+Covers (Stack at) space b = (at ≤ b) × (b < at + space)
+
+-- a register or a byte of the stack that belongs to no argument is zero in the frame of patterns
+pub record IsZeroElsewhere (conv : Conv) : Type 0 where
+  pub gprs_are : (types : List CType) (patterns : List ℕ) (r : ℕ) → ((i : ℕ) → i < length types → place_at conv types i ≢ Gpr r) → slice_index (frame_of conv types patterns).gprs r ≡ 0
+  pub fprs_are : (types : List CType) (patterns : List ℕ) (r : ℕ) → ((i : ℕ) → i < length types → place_at conv types i ≢ Fpr r) → slice_index (frame_of conv types patterns).fprs r ≡ 0
+  pub stack_is : (types : List CType) (patterns : List ℕ) (b : ℕ) → ((i : ℕ) → i < length types → ¬ Covers (place_at conv types i) (space_of conv (type_at types i)) b) → slice_index (frame_of conv types patterns).stack b ≡ 0
+
 -- the n low bytes at a place are those of v
 abbrev pub HoldsOwn : FrameView → (n v : ℕ) → Loc → Type 0
 HoldsOwn frame n v (Gpr r) = slice_index frame.gprs r % 2 ^ (8 * n) ≡ v % 2 ^ (8 * n)
@@ -142,3 +164,11 @@ own_at frame n (Stack at) = low_number n (λ k. slice_index frame.stack (at + k)
 abbrev pub received : Conv → List CType → FrameView → ℕ → ℕ
 received conv types frame i =
     extended conv (type_at types i) (own_at frame (own_len conv (type_at types i)) (place_at conv types i))
+
+-- the frame of a call conforms to the call's values
+abbrev pub PlacedConforms : Conv → Type 0
+PlacedConforms conv = (types : List CType) (values : List ℕ) → length types ≡ length values → Conforms conv types values (placed conv types values)
+
+-- whatever stands in the free bits, a frame that conforms to values gives their canonical patterns
+abbrev pub ReceivesCanonical : Conv → Type 0
+ReceivesCanonical conv = (types : List CType) (values : List ℕ) (frame : FrameView) → Conforms conv types values frame → (i : ℕ) → i < length types → received conv types frame i ≡ canon conv (type_at types i) (slice_index values i)

@@ -9,8 +9,8 @@ use crate::places::{Conv, Loc};
 /// A walk along the arguments of a call, which says of each where the convention passes it.
 ///
 /// A value stands for lists of types: those whose arguments it has passed by. It keeps counters and not the list, and
-/// takes no memory.
-pub trait Convention {
+/// takes no memory. It may be let go at any point.
+pub trait Convention: Drop {
     ghost CONV: { Standard };
 
     /// The convention.

@@ -8,7 +8,7 @@ use crate::places::Loc;
 /// Whether the convention passes arguments of these types at these locations, with a stack of `stack_len` bytes.
 ///
 /// There are as many locations as types, at most 512.
-pub fn passes_at<C: Convention + Drop>(types: &[CType], locations: &[Loc], stack_len: u32) -> bool
+pub fn passes_at<C: Convention>(types: &[CType], locations: &[Loc], stack_len: u32) -> bool
     requires short { length types.now ≤ 512 }
     requires paired { length types.now ≡ length locations.now }
     ensures { IsTrue result ↔ (EachIndex types.now (λ i. slice_get locations.now i ≡ Some (place_at C.CONV types.now i)) × (stack_len ≡ stack_len_of C.CONV types.now)) }

@@ -5,9 +5,11 @@
 mod conventions;
 mod ctypes;
 mod frames;
+pub mod laws;
 mod places;
 mod prototypes;
 mod tables;
+mod values;
 
 pub use conventions::Convention;
 pub use ctypes::CType;
@@ -15,3 +17,4 @@ pub use frames::passes_at;
 pub use places::{Conv, Loc, fprs_of, gprs_of, overflow_bytes, place_by_class, space_of, word_of};
 pub use prototypes::{MemberKind, Note, Pass, ProtoArg, Status};
 pub use tables::{Table, TableIface, TableSlot};
+pub use values::{canonical, own_len};

@@ -1,4 +1,4 @@
-ghost use Rattle.std.specs.Prelude.{◌≡◌};
+ghost use Rattle.std.specs.Prelude.{◌≡◌, ◌≤◌};
 ghost use Rattle.call_model.specs.Placement;
 ghost use Rattle.call_model.specs.Types.{is_float};
 
@@ -61,7 +61,8 @@ pub fn fprs_of(conv: Conv) -> u8
 
 /// How many bytes of stack an argument of this type takes where it stands there.
 pub fn space_of(conv: Conv, ty: CType) -> u32
-    ensures { result ≡ Placement.space_of conv ty }
+    ensures space { result ≡ Placement.space_of conv ty }
+    ensures one_slot { result ≤ 8 }
 {
     match conv {
         Conv::SysV64 | Conv::Aapcs64 | Conv::Ms64 => 8,
@@ -91,4 +92,25 @@ pub fn overflow_bytes(gprs: u8, fprs: u8, integers: u16, floats: u16) -> u32
     let without_gpr = u32::from(integers.saturating_sub(u16::from(gprs)));
     let without_fpr = u32::from(floats.saturating_sub(u16::from(fprs)));
     8 * (without_gpr + without_fpr)
+}
+
+#[cfg(test)]
+mod tests {
+    use super::*;
+
+    #[test]
+    fn words_and_registers_are_those_of_the_standards(rt: HostRuntime) {
+        let standards = [
+            (Conv::SysV64, 8, 6, 8),
+            (Conv::I386, 4, 0, 0),
+            (Conv::Aapcs64, 8, 8, 8),
+            (Conv::Ms64, 8, 4, 4),
+            (Conv::Aapcs32, 4, 0, 0),
+        ];
+        for (conv, word, gprs, fprs) in standards {
+            assert_eq!(rt; word_of(conv), word);
+            assert_eq!(rt; gprs_of(conv), gprs);
+            assert_eq!(rt; fprs_of(conv), fprs);
+        }
+    }
 }

@@ -1,3 +1,5 @@
+ghost use Rattle.std.specs.Prelude.{◌≡◌};
+
 use crate::ctypes::CType;
 
 /// How a typelib parameter becomes an argument of the call.
@@ -36,6 +38,20 @@ pub struct ProtoArg {
     pub ty: CType,
     pub optional: bool,
     pub note: Note,
+}
+
+impl ProtoArg {
+    ghost use Rattle.call_model.specs.Prototype;
+
+    /// The type of what the call passes: the value's own type for `ByValue`, and `Ptr` for the address of a value or a cell.
+    pub fn passed_type(&self) -> CType
+        ensures { result ≡ Prototype.passed_type self.now.pass self.now.ty }
+    {
+        match self.pass {
+            Pass::ByValue => self.ty,
+            Pass::ByRef | Pass::ByCell { .. } => CType::Ptr,
+        }
+    }
 }
 
 /// Whether a method may be called, and if not, why.

@@ -1,0 +1,4 @@
+pub mod Conforming
+pub mod Counted
+pub mod Patterns
+pub mod PlacedFrames

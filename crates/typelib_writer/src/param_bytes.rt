@@ -1,0 +1,83 @@
+ghost use Rattle.std.specs.Prelude.{◌≡◌, ◌<◌, ◌++◌, All, OnOk};
+ghost use Rattle.std.specs.List.{flat_map};
+ghost use Rattle.lib_model.specs.Emit.{elem_text, param_text, tag_byte, type_text};
+ghost use Rattle.typelib_writer.specs.Fits.{ElemFits, TypeFits};
+
+use crate::numbers::put_u16;
+use lib_model::{Elem, Param, XType};
+use xp_base::{Bytes, Memory};
+
+const LAST_NUMBER_TAG: u8 = 12;
+
+const POINTER: u8 = 0x80;
+
+/// The byte of a type with this tag.
+fn byte_of_tag(tag: u8) -> u8
+    requires { tag < 128 }
+    ensures { result ≡ tag_byte tag }
+{
+    if tag <= LAST_NUMBER_TAG {
+        tag
+    } else {
+        tag + POINTER
+    }
+}
+
+/// Adds the type of an array's element.
+#[tactic(auto, unfolding(lib_model::specs::Emit::elem_text))]
+fn put_elem(out: &mut Bytes, elem: Elem) -> Result<(), Memory>
+    requires { ElemFits elem }
+    ensures { OnOk result (out.new ≡ out.old ++ elem_text elem) }
+{
+    match elem {
+        Elem::Plain(tag) => out.append(&[byte_of_tag(tag)]),
+        Elem::Iface(number) => {
+            out.append(&[byte_of_tag(18)])?;
+            put_u16(out, number)
+        }
+        Elem::IidIs(param) => out.append(&[byte_of_tag(19), param]),
+    }
+}
+
+/// Adds the type of a parameter.
+#[tactic(auto, unfolding(lib_model::specs::Emit::type_text))]
+fn put_type(out: &mut Bytes, ty: XType) -> Result<(), Memory>
+    requires { TypeFits ty }
+    ensures { OnOk result (out.new ≡ out.old ++ type_text ty) }
+{
+    match ty {
+        XType::Plain(tag) => out.append(&[byte_of_tag(tag)]),
+        XType::Iface(number) => {
+            out.append(&[byte_of_tag(18)])?;
+            put_u16(out, number)
+        }
+        XType::IidIs(param) => out.append(&[byte_of_tag(19), param]),
+        XType::Array { size, len, elem } => {
+            out.append(&[byte_of_tag(20), size, len])?;
+            put_elem(out, elem)
+        }
+        XType::SizedString { size, len } => out.append(&[byte_of_tag(21), size, len]),
+        XType::SizedWString { size, len } => out.append(&[byte_of_tag(22), size, len]),
+    }
+}
+
+/// Adds a parameter.
+#[tactic(auto, unfolding(lib_model::specs::Emit::param_text))]
+fn put_param(out: &mut Bytes, param: &Param) -> Result<(), Memory>
+    requires { TypeFits param.now.ty }
+    ensures { OnOk result (out.new ≡ out.old ++ param_text param.now) }
+{
+    out.append(&[param.flags.bits])?;
+    put_type(out, param.ty)
+}
+
+/// Adds the parameters of a method, in order.
+pub(crate) fn put_params(out: &mut Bytes, params: &[Param]) -> Result<(), Memory>
+    requires { All (λ p. TypeFits p.ty) params.now }
+    ensures { OnOk result (out.new ≡ out.old ++ flat_map param_text params.now) }
+{
+    for param in params {
+        put_param(out, param)?;
+    }
+    Ok(())
+}
