@@ -27,6 +27,10 @@ pub bytes_at-cells : (m : MachineView) (at n : ℕ) → (InMemory m at n → ⊥
 bytes_at-cells m at n out inside =
     rw (both_false VTABLE_AT at (at + n) (VTABLE_AT + length m.memory) (λ p q. out (p, q)), both_true CELLS_AT at (at + n) (CELLS_AT + length m.cells) inside.0 inside.1) refl
 
+pub bytes_at-none : (m : MachineView) (at n : ℕ) → (InMemory m at n → ⊥) → (InCells m at n → ⊥) → None ≡ bytes_at m at n
+bytes_at-none m at n out off =
+    rw (both_false VTABLE_AT at (at + n) (VTABLE_AT + length m.memory) (λ p q. out (p, q)), both_false CELLS_AT at (at + n) (CELLS_AT + length m.cells) (λ p q. off (p, q))) refl
+
 pub written-memory : (m : MachineView) (at : ℕ) (bytes : List ℕ) → InMemory m at (length bytes) → written m at bytes ≡ record m { memory = overwritten m.memory (at - VTABLE_AT) bytes }
 written-memory m at bytes inside = rw (both_true VTABLE_AT at (at + length bytes) (VTABLE_AT + length m.memory) inside.0 inside.1) refl
 

@@ -1,6 +1,6 @@
 -- A machine goes on holding its heap: when a block is added, and when a data block is written.
-use Rattle.std.proofs.Common.{◌≡◌, ℕ, zero, suc, ◌+◌, ◌-◌, ◌<◌, ◌≤◌, Bool, true, false, ◌&&◌, cond, List, [], ◌∷◌, ◌++◌, length, take, drop, replicate, get_or, refl, sym, subst, ap, ◌∙◌, arith, ◌⊎◌, inl, inr, length-append}
-use Rattle.std.specs.Prelude.{nat_le}
+use Rattle.std.proofs.Common.{◌≡◌, ℕ, zero, suc, ◌+◌, ◌-◌, ◌<◌, ◌≤◌, Bool, true, false, ◌&&◌, cond, List, [], ◌∷◌, ◌++◌, length, take, drop, replicate, get_or, refl, sym, subst, ap, ◌∙◌, arith, ◌⊎◌, inl, inr, length-append, length-drop, Option, Some, None}
+use Rattle.std.specs.Prelude.{nat_le, slice_range}
 use Rattle.std.specs.List.{Any}
 use Rattle.std.proofs.lemmas.Grind.{common_steps}
 use Rattle.std.proofs.lemmas.List.{append-nil, append_assoc, length-replicate, take_at, drop_at, take-append-le, drop-append-le}
@@ -11,11 +11,11 @@ use Rattle.call_model.specs.Placement.{word_of}
 use Rattle.object_memory.specs.declared.data_block.DataBlock.{DataBlock}
 use Rattle.object_memory.specs.declared.layout.TheConstants.{VTABLE_AT, SLOTS}
 use Rattle.object_memory.specs.Layout.{space_for, padded, slot_words, vtable, vtable_space}
-use Rattle.object_memory.specs.Memory.{MachineView, new_machine, InBlock, Inside, InMemory, written}
-use Rattle.object_memory.specs.Heap.{Content, Data, Object, content_bytes, space_of, blocks_image, image, heap_at, along, block_shown, object_shown, data_blocks, object_addresses, Holds, content_after, blocks_after, heap_after, with_data, with_object}
+use Rattle.object_memory.specs.Memory.{MachineView, new_machine, InBlock, Inside, InMemory, bytes_at, written}
+use Rattle.object_memory.specs.Heap.{Content, Data, Object, content_bytes, space_of, blocks_image, image, heap_at, along, block_shown, object_shown, data_blocks, object_addresses, Holds, content_after, blocks_after, heap_after, bytes_along, heap_bytes, with_data, with_object}
 use Rattle.object_memory.proofs.Growth.{length-padded, length-slot_words}
 use Rattle.object_memory.proofs.Lists.{length-overwritten}
-use Rattle.object_memory.proofs.Access.{written-memory, both_true, both_false}
+use Rattle.object_memory.proofs.Access.{bytes_at-memory, written-memory, both_true, both_false}
 
 -- ---- a block more at the end
 blocks_image-push : (conv : Conv) (heap : List Content) (c : Content) → blocks_image conv (heap ++ c ∷ []) ≡ blocks_image conv heap ++ padded (content_bytes conv c)
@@ -193,10 +193,50 @@ holds-written m heap a bytes inside held =
     let memory : InMemory m a n = (omega (arith, low), omega (arith, ends m.conv start heap a n here, heap_ends m heap held)) in
     let split : a - VTABLE_AT ≡ length (vtable m.conv) + (a - start) = omega (arith, low, length-vtable m.conv) in
     let bytes_are : overwritten m.memory (a - VTABLE_AT) bytes ≡ image m.conv (heap_after m.conv heap a bytes) = ap (λ l. overwritten l (a - VTABLE_AT) bytes) held.memory
-      ∙ overwritten_back (vtable m.conv) (blocks_image m.conv heap) (a - VTABLE_AT) (a - start) bytes split
-      ∙ ap (λ l. vtable m.conv ++ l) (image_written m.conv start heap a bytes inside.0 here) in
+    ∙ overwritten_back (vtable m.conv) (blocks_image m.conv heap) (a - VTABLE_AT) (a - start) bytes split
+    ∙ ap (λ l. vtable m.conv ++ l) (image_written m.conv start heap a bytes inside.0 here) in
     subst (λ (k : MachineView). Holds k (heap_after m.conv heap a bytes)) (sym (written-memory m a bytes memory)) (record {
       memory = bytes_are;
       blocks = held.blocks ∙ sym (along-after block_shown m.conv start heap a bytes (λ k c. same_block k c a bytes));
       objects = held.objects ∙ sym (along-after object_shown m.conv start heap a bytes (λ k c. same_object k c a bytes));
     })
+
+-- ---- what a data block is read as
+slice_front : (xs zs : List ℕ) (i j : ℕ) → i ≤ j → j ≤ length xs → slice_range (xs ++ zs) i j ≡ slice_range xs i j
+slice_front xs zs i j le within =
+    let low : i ≤ length xs = omega (arith, le, within) in let short : j - i ≤ length (drop i xs) = omega (arith, within, length-drop i xs) in
+    ap (λ l. take (j - i) l) (drop-append-le i xs zs low) ∙ take-append-le (j - i) (drop i xs) zs short
+
+slice_back : (xs zs : List ℕ) (i k n : ℕ) → i ≡ length xs + k → slice_range (xs ++ zs) i (i + n) ≡ slice_range zs k (k + n)
+slice_back xs zs i k n is =
+    let count : i + n - i ≡ k + n - k = omega arith in
+    (λ j. take (count j) ((ap (λ q. drop q (xs ++ zs)) is ∙ drop-append-add xs zs k) j))
+
+slice_along : (conv : Conv) (at : ℕ) (heap : List Content) (a n : ℕ) → 1 ≤ n → InHeap conv at heap a n → Some (slice_range (blocks_image conv heap) (a - at) (a - at + n)) ≡ bytes_along conv at heap a n
+slice_along conv at [] a n some in_it = absurd in_it
+slice_along conv at (Object number ∷ heap) a n some (inl here) = absurd here
+slice_along conv at (Data held ∷ heap) a n some (inl here) =
+    let p = a - at in let up : p ≤ p + n = omega arith in
+    let within : p + n ≤ length held = omega (arith, here.0, here.1) in let fits : p + n ≤ length (padded held) = omega (arith, within, length-padded held, length-le held) in
+    let head : bytes_along conv at (Data held ∷ heap) a n ≡ Some (slice_range held p (p + n)) = rw (both_true at a (a + n) (at + length held) here.0 here.1) refl in
+    ap Some (slice_front (padded held) (blocks_image conv heap) p (p + n) up fits ∙ slice_front held (replicate (space_for (length held) - length held) 0) p (p + n) up within) ∙ sym head
+slice_along conv at (Data held ∷ heap) a n some (inr later) =
+    let next = at + space_of conv (Data held) in let low : next ≤ a = begins conv next heap a n later in
+    let split : a - at ≡ length (padded held) + (a - next) = omega (arith, low, length-padded held) in
+    let head : bytes_along conv at (Data held ∷ heap) a n ≡ bytes_along conv next heap a n = rw (both_false at a (a + n) (at + length held) (λ p q. omega (arith, some, low, q, length-le held))) refl in
+    ap Some (slice_back (padded held) (blocks_image conv heap) (a - at) (a - next) n split) ∙ slice_along conv next heap a n some later ∙ sym head
+slice_along conv at (Object number ∷ heap) a n some (inr later) =
+    let bytes = content_bytes conv (Object number) in let next = at + space_of conv (Object number) in let low : next ≤ a = begins conv next heap a n later in
+    let split : a - at ≡ length (padded bytes) + (a - next) = omega (arith, low, length-padded bytes) in
+    ap Some (slice_back (padded bytes) (blocks_image conv heap) (a - at) (a - next) n split) ∙ slice_along conv next heap a n some later
+
+pub holds-bytes : (m : MachineView) (heap : List Content) (a n : ℕ) → Inside m.blocks a n → Holds m heap → bytes_at m a n ≡ heap_bytes m.conv heap a n
+holds-bytes m heap a n inside held =
+    let start = heap_at m.conv in
+    let here : InHeap m.conv start heap a n = in_heap m.conv start heap a n (subst (λ l. Any (InBlock a n) l) held.blocks inside.1) in
+    let low : start ≤ a = begins m.conv start heap a n here in
+    let memory : InMemory m a n = (omega (arith, low), omega (arith, ends m.conv start heap a n here, heap_ends m heap held)) in
+    let split : a - VTABLE_AT ≡ length (vtable m.conv) + (a - start) = omega (arith, low, length-vtable m.conv) in
+    bytes_at-memory m a n memory
+    ∙ ap Some (ap (λ l. slice_range l (a - VTABLE_AT) (a - VTABLE_AT + n)) held.memory ∙ slice_back (vtable m.conv) (blocks_image m.conv heap) (a - VTABLE_AT) (a - start) n split)
+    ∙ slice_along m.conv start heap a n inside.0 here

@@ -1,5 +1,5 @@
 -- The heap as a list of blocks: what each holds, where it stands, and the bytes that vtable and heap are.
-use Rattle.std.specs.Prelude.{◌≡◌, ℕ, ◌+◌, ◌-◌, ◌*◌, ◌≤◌, ◌&&◌, nat_le, List, [], ◌∷◌, ◌++◌, length, if◌then◌else◌}
+use Rattle.std.specs.Prelude.{◌≡◌, ℕ, ◌+◌, ◌-◌, ◌*◌, ◌≤◌, ◌&&◌, nat_le, List, [], ◌∷◌, ◌++◌, length, slice_range, Option, Some, None, if◌then◌else◌}
 use Rattle.call_model.specs.declared.places.Conv.{Conv}
 use Rattle.call_model.specs.Placement.{word_of}
 use Rattle.raw_block.specs.Bytes.{overwritten}
@@ -91,3 +91,14 @@ with_object m = record m {
   memory = m.memory ++ padded (content_bytes m.conv (Object (length m.objects)));
   objects = m.objects ++ (VTABLE_AT + length m.memory) ∷ [];
 }
+
+-- the n bytes at an address, where they lie in one data block of a heap, whose first block stands at `at`
+abbrev pub bytes_along : Conv → (at : ℕ) → List Content → (address n : ℕ) → Option (List ℕ)
+bytes_along conv at [] address n = None
+bytes_along conv at (Data held ∷ heap) address n =
+    if nat_le at address && nat_le (address + n) (at + length held) then Some (slice_range held (address - at) (address - at + n))
+    else bytes_along conv (at + space_of conv (Data held)) heap address n
+bytes_along conv at (Object number ∷ heap) address n = bytes_along conv (at + space_of conv (Object number)) heap address n
+
+abbrev pub heap_bytes : Conv → List Content → (address n : ℕ) → Option (List ℕ)
+heap_bytes conv heap address n = bytes_along conv (heap_at conv) heap address n

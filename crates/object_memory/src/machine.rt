@@ -2,7 +2,7 @@ ghost use Rattle.std.specs.Prelude.{◌≡◌, ◌+◌, ◌-◌, ◌*◌, ◌<�
 ghost use Rattle.std.specs.Option.{option_copied};
 ghost use Rattle.std.specs.Borrow.{sem};
 ghost use Rattle.call_model.specs.Placement;
-ghost use Rattle.object_memory.specs.Heap.{Content, Data, Holds, Object, heap_after, with_data, with_object};
+ghost use Rattle.object_memory.specs.Heap.{Content, Data, Holds, Object, heap_after, heap_bytes, with_data, with_object};
 ghost use Rattle.object_memory.specs.Layout;
 ghost use Rattle.object_memory.specs.Memory.{InMemory, Inside, IsReadable, bytes_at, entry_at, new_machine, number_at, occupied, written};
 ghost use Rattle.object_memory.specs.Numbers.{bytes_of, low_bytes};
@@ -202,6 +202,7 @@ impl Machine {
         ensures none { n ≡ 0 → option_copied result ≡ Some [] }
         ensures readable { 1 ≤ n → (IsSome result ↔ IsReadable self.now at n) }
         ensures value { 1 ≤ n → option_copied result ≡ bytes_at self.now at n }
+        ensures holds { Inside self.now.blocks at n → (heap : List Content) → Holds self.now heap → option_copied result ≡ heap_bytes self.now.conv heap at n }
     {
         if n == 0 {
             return Some(&[]);
