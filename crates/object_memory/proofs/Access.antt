@@ -1,5 +1,5 @@
 -- What is read and written at an address.
-use Rattle.std.proofs.Common.{◌≡◌, ℕ, ◌+◌, ◌-◌, ◌<◌, ◌≤◌, Bool, true, false, ◌&&◌, List, [], ◌∷◌, ◌++◌, length, take, drop, replicate, refl, sym, subst, ap, ◌∙◌, arith, length-take, Option, Some, None}
+use Rattle.std.proofs.Common.{◌≡◌, ℕ, ◌+◌, ◌-◌, ◌≤◌, true, false, ◌&&◌, List, length, take, drop, replicate, refl, sym, subst, ap, ◌∙◌, arith, Option, Some, None}
 use Rattle.std.specs.Prelude.{nat_le, slice_range}
 use Rattle.std.specs.Option.{SomeIff, option_map}
 use Rattle.std.proofs.lemmas.Grind.{common_steps}
@@ -9,8 +9,8 @@ use Rattle.call_model.specs.declared.places.Conv.{Conv}
 use Rattle.object_memory.specs.declared.data_block.DataBlock.{DataBlock}
 use Rattle.object_memory.specs.declared.layout.TheConstants.{VTABLE_AT, CELLS_AT}
 use Rattle.object_memory.specs.Numbers.{low_bytes, number_of}
-use Rattle.object_memory.specs.Memory.{MachineView, Within, InMemory, InCells, is_within, bytes_at, number_at, written}
-use Rattle.object_memory.specs.WellFormed.{HasSpare, IsWellFormed}
+use Rattle.object_memory.specs.Memory.{MachineView, InMemory, InCells, bytes_at, number_at, written}
+use Rattle.object_memory.specs.WellFormed.{IsWellFormed}
 use Rattle.object_memory.proofs.Digits.{length-low_bytes}
 use Rattle.object_memory.proofs.Lists.{length-overwritten, take-overwritten, drop-overwritten}
 

@@ -1,9 +1,9 @@
 -- A machine goes on holding its heap: when a block is added, and when a data block is written.
-use Rattle.std.proofs.Common.{◌≡◌, ℕ, zero, suc, ◌+◌, ◌-◌, ◌<◌, ◌≤◌, Bool, true, false, ◌&&◌, cond, List, [], ◌∷◌, ◌++◌, length, take, drop, replicate, get_or, refl, sym, subst, ap, ◌∙◌, arith, ◌⊎◌, inl, inr, length-append, length-drop, Option, Some, None}
+use Rattle.std.proofs.Common.{◌≡◌, ℕ, zero, suc, ◌+◌, ◌-◌, ◌<◌, ◌≤◌, Bool, true, false, ◌&&◌, cond, List, [], ◌∷◌, ◌++◌, length, take, drop, replicate, get_or, refl, sym, subst, ap, ◌∙◌, arith, ◌⊎◌, inl, inr, length-append, length-drop, Some}
 use Rattle.std.specs.Prelude.{nat_le, slice_range}
 use Rattle.std.specs.List.{Any}
 use Rattle.std.proofs.lemmas.Grind.{common_steps}
-use Rattle.std.proofs.lemmas.List.{append-nil, append_assoc, length-replicate, take_at, drop_at, take-append-le, drop-append-le}
+use Rattle.std.proofs.lemmas.List.{append-nil, append_assoc, take-append-le, drop-append-le}
 use Rattle.std.proofs.Math.Seq.{take-append-add, drop-append-add}
 use Rattle.raw_block.specs.Bytes.{overwritten}
 use Rattle.call_model.specs.declared.places.Conv.{Conv}

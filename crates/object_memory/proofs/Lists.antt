@@ -1,8 +1,8 @@
 -- Bytes in the middle of others, taken and dropped.
 use Rattle.std.proofs.Common.{◌≡◌, ℕ, ◌+◌, ◌-◌, ◌<◌, ◌≤◌, List, [], ◌∷◌, ◌++◌, length, take, drop, replicate, refl, sym, ap, ◌∙◌, arith, length-append, length-take, length-drop, append_assoc}
-use Rattle.std.proofs.lemmas.List.{take-append-drop, replicate_more, take_at, drop_at, take-take, take-replicate, drop-replicate, drop-take, length-replicate, get_or-take, get_or-drop, get_or_append_left, get_or-append_right}
+use Rattle.std.proofs.lemmas.List.{take-append-drop, replicate_more, take_at, drop_at, take-take, drop-take, length-replicate}
 use Rattle.std.proofs.Math.Seq.{take-append-add, drop-append-add, drop-drop}
-use Rattle.std.specs.Prelude.{slice_range, slice_index}
+use Rattle.std.specs.Prelude.{slice_range}
 use Rattle.raw_block.specs.Bytes.{overwritten}
 
 module _ (xs : List ℕ) (at : ℕ) (ys : List ℕ) (within : at + length ys ≤ length xs) where

@@ -1,5 +1,5 @@
 -- Blocks that follow each other rise by their addresses.
-use Rattle.std.proofs.Common.{◌<◌, ◌≤◌, ◌≡◌, ℕ, leb, leb-true, length, get_or, ap, arith, rules}
+use Rattle.std.proofs.Common.{leb, leb-true, rules}
 use Rattle.std.proofs.lemmas.List.Sorted.{IsPartitionPoint-from_clause, IsPartitionedBy-leb}
 use Rattle.object_memory.specs.declared.data_block.DataBlock.{DataBlock}
 use Rattle.object_memory.proofs.Search.{addresses_rise, not_up_to}

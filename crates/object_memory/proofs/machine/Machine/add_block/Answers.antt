@@ -6,8 +6,6 @@ use Rattle.object_memory.specs.declared.layout.TheConstants.{VTABLE_AT, SLOTS, H
 use Rattle.object_memory.specs.Heap.{Data, Holds, with_data}
 use Rattle.object_memory.specs.Layout.{space_for, padded, vtable_space}
 use Rattle.object_memory.specs.Memory.{MachineView}
-use Rattle.object_memory.specs.WellFormed.{IsWellFormed}
-use Rattle.raw_block.specs.Bytes.{overwritten}
 use Rattle.object_memory.proofs.Held.{holds-data}
 use Rattle.object_memory.proofs.Growth.{well_formed-data, added_memory}
 use Rattle.object_memory.proofs.machine.Machine.add_block.Goals as goal

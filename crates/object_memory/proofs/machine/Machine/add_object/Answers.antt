@@ -1,13 +1,10 @@
 -- The two words stand behind what was in use, and zeros fill their space.
 use Rattle.std.proofs.Common.{◌≡◌, ◌≤◌, ◌+◌, ◌*◌, [], ◌∷◌, ◌++◌, length, take, subst, sym, ap, ◌∙◌, arith, refl}
 use Rattle.std.proofs.lemmas.List.{length-take-le}
-use Rattle.call_model.specs.Placement.{word_of}
 use Rattle.object_memory.specs.declared.layout.TheConstants.{VTABLE_AT, SLOTS, HEAP_LIMIT}
 use Rattle.object_memory.specs.Heap.{Holds, Object, content_bytes, with_object}
 use Rattle.object_memory.specs.Layout.{space_for, padded, vtable_space}
 use Rattle.object_memory.specs.Memory.{MachineView}
-use Rattle.object_memory.specs.WellFormed.{IsWellFormed}
-use Rattle.raw_block.specs.Bytes.{overwritten}
 use Rattle.object_memory.proofs.Held.{holds-object}
 use Rattle.object_memory.proofs.Growth.{well_formed-object, added_memory, object_len, two_words}
 use Rattle.object_memory.proofs.machine.Machine.add_object.Goals as goal

@@ -1,5 +1,5 @@
 -- The bytes that were read are those of the address.
-use Rattle.std.proofs.Common.{ℕ, ◌+◌, ◌≡◌, ◌≤◌, ◌*◌, length, refl, subst, ap, arith}
+use Rattle.std.proofs.Common.{◌+◌, ◌≤◌, ◌*◌, length, refl, subst, ap, arith}
 use Rattle.std.specs.Prelude.{slice_range}
 use Rattle.object_memory.specs.declared.layout.TheConstants.{VTABLE_AT, CELLS_AT}
 use Rattle.object_memory.specs.Memory.{MachineView}

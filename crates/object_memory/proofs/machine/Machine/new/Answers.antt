@@ -1,10 +1,9 @@
 -- The heap is the vtable, all of it in use.
-use Rattle.std.proofs.Common.{◌≡◌, ◌≤◌, [], length, take, subst, sym, ap, ◌∙◌, arith}
+use Rattle.std.proofs.Common.{◌≡◌, ◌≤◌, [], length, subst, sym, ap, ◌∙◌, arith}
 use Rattle.std.proofs.lemmas.List.{take_all}
 use Rattle.object_memory.specs.declared.layout.TheConstants.{SLOTS}
 use Rattle.object_memory.specs.Layout.{padded, slot_words, vtable}
-use Rattle.object_memory.specs.Memory.{MachineView, empty_frame}
-use Rattle.object_memory.specs.WellFormed.{IsWellFormed}
+use Rattle.object_memory.specs.Memory.{MachineView}
 use Rattle.object_memory.specs.Heap.{Holds}
 use Rattle.object_memory.proofs.Held.{holds-new}
 use Rattle.object_memory.proofs.Growth.{well_formed-new}

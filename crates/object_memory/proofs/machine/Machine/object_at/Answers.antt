@@ -1,6 +1,5 @@
 -- The search goes over numbers that rise.
-use Rattle.std.proofs.Common.{◌<◌, ℕ, ◌≡◌, false, true, Err, List, length, subst, sym, ap, ◌∙◌, rules}
-use Rattle.std.specs.Prelude.{IsTrue, ◌↔◌}
+use Rattle.std.proofs.Common.{◌<◌, ◌≡◌, Err, subst, sym, ap, ◌∙◌}
 use Rattle.std.specs.List.{AllPairs, Contains}
 use Rattle.std.proofs.lemmas.Bool.{false≢true}
 use Rattle.std.proofs.lemmas.List.Sorted.{searched}

@@ -1,9 +1,8 @@
 -- The bytes that were written are those of the address.
-use Rattle.std.proofs.Common.{ℕ, ◌+◌, ◌*◌, ◌≤◌, length, take, subst, ap, ◌∙◌, sym, arith}
-use Rattle.raw_block.specs.Bytes.{overwritten}
-use Rattle.object_memory.specs.declared.layout.TheConstants.{VTABLE_AT, CELLS_AT}
+use Rattle.std.proofs.Common.{◌+◌, ◌*◌, ◌≤◌, length, take, subst, ap, ◌∙◌, sym, arith}
+use Rattle.object_memory.specs.declared.layout.TheConstants.{VTABLE_AT}
 use Rattle.object_memory.specs.Heap.{Holds, heap_after}
-use Rattle.object_memory.specs.Memory.{MachineView, Inside, InMemory, InCells, written}
+use Rattle.object_memory.specs.Memory.{MachineView, Inside, written}
 use Rattle.object_memory.specs.Numbers.{bytes_of, low_bytes}
 use Rattle.object_memory.proofs.Held.{holds-written}
 use Rattle.object_memory.proofs.Digits.{length-low_bytes}
