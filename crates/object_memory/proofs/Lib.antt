@@ -1,0 +1,7 @@
+pub mod Access
+pub mod Digits
+pub mod Growth
+pub mod Held
+pub mod Lists
+pub mod Puts
+pub mod Search

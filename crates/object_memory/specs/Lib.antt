@@ -1,0 +1,7 @@
+pub mod Frames
+pub mod Heap
+pub mod Layout
+pub mod Lends
+pub mod Memory
+pub mod Numbers
+pub mod WellFormed
