@@ -1,0 +1,13 @@
+//! Scripts of calls, read: each line of a text is one command over blocks, objects, variables and calls.
+#![tactic(auto)]
+
+mod error;
+mod forms;
+mod script;
+mod spellings;
+
+pub use error::ScriptError;
+pub use script::{
+    Act, ArgWord, EnterItem, Fill, Line, MemberRef, MemberWord, ReplyItem, Script, Target, Term,
+    ValueWord,
+};
