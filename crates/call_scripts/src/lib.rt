@@ -1,6 +1,7 @@
 //! Scripts of calls, read: each line of a text is one command over blocks, objects, variables and calls.
 #![tactic(auto)]
 
+mod commands;
 mod error;
 mod forms;
 mod script;

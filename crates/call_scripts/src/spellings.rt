@@ -153,6 +153,13 @@ pub(crate) fn offset(word: &[u8]) -> Option<u32>
     Some(digits(word, 8)? as u32)
 }
 
+/// A result: 1 to 8 hexadecimal digits.
+pub(crate) fn status(word: &[u8]) -> Option<u32>
+    ensures { result ≡ digits_of 16 8 word.now }
+{
+    Some(hex_digits(word, 8)? as u32)
+}
+
 /// The parts of the word before and after the first `mark` in it.
 #[tactic(auto, unfolding(crate::specs::Reading::cut_at))]
 pub(crate) fn cut_at(word: &[u8], mark: u8) -> Option<(&[u8], &[u8])>
