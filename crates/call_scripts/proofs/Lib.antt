@@ -1,1 +1,2 @@
+pub mod Eaches
 pub mod Numerals

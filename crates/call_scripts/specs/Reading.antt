@@ -1,5 +1,5 @@
 -- What each word and each line reads as, if it has a reading.
-use Rattle.std.specs.Prelude.{◌≡◌, ℕ, ◌+◌, ◌-◌, position, zero, suc, Bool, true, false, not, ◌&&◌, ◌||◌, if◌then◌else◌, ◌==◌, nat_lt, nat_le, List, [], ◌∷◌, ◌++◌, length, take, drop, ℤ, pos, neg_ℤ, codes, Option, Some, None, Result, Ok, Err}
+use Rattle.std.specs.Prelude.{◌≡◌, ℕ, ◌+◌, ◌-◌, position, zero, suc, Bool, true, false, not, ◌&&◌, ◌||◌, if◌then◌else◌, ◌==◌, slice_index, nat_lt, nat_le, List, [], ◌∷◌, ◌++◌, length, take, drop, ℤ, pos, neg_ℤ, codes, Option, Some, None, Result, Ok, Err}
 use Rattle.std.specs.List.{list_all}
 use Rattle.std.specs.Char.{is_digit}
 use Rattle.std.specs.Option.{option_map, option_map_or}
@@ -8,12 +8,15 @@ use Rattle.std.specs.Str.{bytes_eq}
 use Rattle.std.specs.Str.Parse.{digits_value, starts_with_minus}
 use Rattle.hex.specs.Hex.{decode_of}
 use Rattle.uuid.specs.Text.{parsed_hyphenated}
+use Rattle.call_scripts.specs.declared.error.ScriptError.{ScriptError}
+use Rattle.call_scripts.specs.declared.error.ScriptError.TheVariants as errors
 use Rattle.call_scripts.specs.declared.error.Unread.{Unread}
 use Rattle.call_scripts.specs.declared.error.Unread.TheVariants.{NoReading, NoMemory}
 use Rattle.call_scripts.specs.declared.script.Act.{Act}
 use Rattle.call_scripts.specs.declared.script.ArgWord.{ArgWord}
 use Rattle.call_scripts.specs.declared.script.EnterItem.{EnterItem}
 use Rattle.call_scripts.specs.declared.script.Fill.{Fill}
+use Rattle.call_scripts.specs.declared.script.Line.{Line}
 use Rattle.call_scripts.specs.declared.script.MemberRef.{MemberRef}
 use Rattle.call_scripts.specs.declared.script.MemberWord.{MemberWord}
 use Rattle.call_scripts.specs.declared.script.ReplyItem.{ReplyItem}
@@ -31,6 +34,7 @@ use Rattle.call_scripts.specs.declared.script.Term.TheVariants as terms
 use Rattle.call_scripts.specs.declared.script.Term.TheVariants.{Arg, InCell}
 use Rattle.call_scripts.specs.declared.script.ValueWord.TheVariants as values
 use Rattle.call_scripts.specs.Spellings.{Word, is_name, is_register}
+use Rattle.call_scripts.specs.Texts.{is_plain, joined, words}
 
 -- What a reader returned is what the reading is, unless memory ran out.
 abbrev pub Gives : {A : Type 0} → Result A Unread → Option A → Type 0
@@ -198,3 +202,45 @@ act_of (command ∷ words) =
     else if bytes_eq command (codes "poke") then poke_of words
     else if bytes_eq command (codes "context") then context_of words
     else None
+
+-- a word that begins with `#`
+abbrev pub is_comment : Word → Bool
+is_comment w = slice_index w 0 == 35
+
+-- the line of these words, if it is any
+unfoldable pub words_line_of : ℕ → List Word → Option (Option Line)
+words_line_of number [] = Some None
+words_line_of number (w ∷ ws) =
+    if is_comment w then Some None
+    else (act_of (w ∷ ws) >>= λ act. Some (Some (record { number = number; echo = joined (w ∷ ws); act = act })))
+
+unfoldable pub line_of : ℕ → Word → Option (Option Line)
+line_of number text = if is_plain text then words_line_of number (words text) else None
+
+-- a line before those that follow it
+abbrev pub add_line : ℕ → Option (Option Line) → Result (List Line) ℕ → Result (List Line) ℕ
+add_line number None more = Err number
+add_line number (Some None) more = more
+add_line number (Some (Some line)) (Ok more) = Ok (line ∷ more)
+add_line number (Some (Some line)) (Err first) = Err first
+
+-- the lines of a script, the first of which has this number, or the number of the first that has no reading
+abbrev pub script_of : ℕ → List Word → Result (List Line) ℕ
+script_of number [] = Ok []
+script_of number (text ∷ texts) = add_line number (line_of number text) (script_of (number + 1) texts)
+
+-- What a reader of lines returned is what the reading is, unless memory ran out.
+abbrev pub GivesLines : Result (List Line) ScriptError → Result (List Line) ℕ → Type 0
+GivesLines (Ok lines) reading = reading ≡ Ok lines
+GivesLines (Err (errors.Fault line)) reading = reading ≡ Err line
+GivesLines (Err errors.Memory) reading = Unit {0}
+
+-- a reading with the lines that were read before it
+abbrev pub with_lines : List Line → Result (List Line) ℕ → Result (List Line) ℕ
+with_lines front (Ok more) = Ok (front ++ more)
+with_lines front (Err first) = Err first
+
+-- why a line is not taken
+abbrev pub Refuses : ℕ → Option (Option Line) → ScriptError → Type 0
+Refuses number reading (errors.Fault line) = (line ≡ number) × (reading ≡ None)
+Refuses number reading errors.Memory = Unit {0}

@@ -2,6 +2,7 @@ ghost use Rattle.std.specs.Prelude.{◌≡◌};
 ghost use Rattle.call_scripts.specs.declared.error.Unread.TheVariants.{NoMemory, NoReading};
 
 use hex::FromHexError;
+use std::alloc::AllocError;
 use thiserror::Error;
 use xp_base::Memory;
 
@@ -23,6 +24,24 @@ pub(crate) enum Unread {
     NoReading,
     /// There was no memory for what it reads as.
     NoMemory,
+}
+
+impl From<Memory> for ScriptError {
+    ghost use Rattle.call_scripts.specs.declared.error.ScriptError.TheVariants as errors;
+
+    ghost from_gives = { λ _ e. e ≡ errors.Memory };
+
+    fn from(_: Memory) -> ScriptError {
+        ScriptError::Memory
+    }
+}
+
+impl From<AllocError> for Unread {
+    ghost from_gives = { λ _ e. e ≡ NoMemory };
+
+    fn from(_: AllocError) -> Unread {
+        Unread::NoMemory
+    }
 }
 
 impl From<Memory> for Unread {

@@ -4,10 +4,13 @@
 mod commands;
 mod error;
 mod forms;
+mod read;
 mod script;
 mod spellings;
+mod texts;
 
 pub use error::ScriptError;
+pub use read::{MAX_SCRIPT, read_script};
 pub use script::{
     Act, ArgWord, EnterItem, Fill, Line, MemberRef, MemberWord, ReplyItem, Script, Target, Term,
     ValueWord,
