@@ -7,20 +7,12 @@ use Rattle.std.proofs.lemmas.Bool.{false≢true, eqb-true, eq-eqb, ltb-true, lt-
 use Rattle.std.proofs.Math.Numerals.{one-add}
 use Rattle.std.proofs.lemmas.List.Splits.{slice_split_at, slice_split_none, length-slice_split}
 use Rattle.call_scripts.specs.Reading.{cut_at}
+use Rattle.call_scripts.proofs.Tests.{both, not_true}
 use Rattle.call_scripts.specs.Spellings.{Word}
 
 -- no byte of the word is the mark
 abbrev pub lacks : ℕ → Word → Bool
 lacks mark w = list_all (λ b. not (eqb b mark)) w
-
-both : (a b : Bool) → (a && b) ≡ true → (a ≡ true) × (b ≡ true)
-both true true h = (refl, refl)
-both true false h = absurd (false≢true h)
-both false b h = absurd (false≢true h)
-
-not_true : (b : Bool) → not b ≡ true → b ≡ false
-not_true true h = absurd (false≢true h)
-not_true false h = refl
 
 abbrev push : ℕ → Word × Word → Word × Word
 push b parts = (b ∷ parts.0, parts.1)

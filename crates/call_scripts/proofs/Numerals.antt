@@ -13,17 +13,8 @@ use Rattle.std.proofs.Math.Nat.{pow-le-pow_right}
 use Rattle.uuid.specs.Text.{parsed, parsed_hyphenated}
 use Rattle.xp_base.specs.Digits.{IsNatural, IsDecimal, decimal_value}
 use Rattle.call_scripts.specs.Reading.{digits_of, decimal_of, number_of}
+use Rattle.call_scripts.proofs.Tests.{both, untested}
 use Rattle.call_scripts.specs.Spellings.{Word}
-
-both : (a b : Bool) → (a && b) ≡ true → (a ≡ true) × (b ≡ true)
-both true true h = (refl, refl)
-both true false h = absurd (false≢true h)
-both false b h = absurd (false≢true h)
-
--- a test that fails gives nothing
-pub untested : {A : Type 0} (b : Bool) (x : A) → (b ≡ true → ⊥) → cond b (Some x) None ≡ None
-untested true x h = absurd (h refl)
-untested false x h = refl
 
 -- every byte is a digit, as a test and as a fact
 all_digits : (radix : ℕ) (w : Word) → list_all (λ c. is_digit c radix) w ≡ true → AllDigits radix w
@@ -31,7 +22,7 @@ all_digits radix [] h = tt
 all_digits radix (c ∷ w) h =
     let parts = both (is_digit c radix) (list_all (λ c. is_digit c radix) w) h in (ltb-true _ _ parts.0, all_digits radix w parts.1)
 
-test_digits : (radix : ℕ) (w : Word) → AllDigits radix w → list_all (λ c. is_digit c radix) w ≡ true
+pub test_digits : (radix : ℕ) (w : Word) → AllDigits radix w → list_all (λ c. is_digit c radix) w ≡ true
 test_digits radix [] h = refl
 test_digits radix (c ∷ w) h =
     let digit : is_digit c radix ≡ true = lt-ltb _ _ h.0 in rw (digit, test_digits radix w h.1) refl
