@@ -1,9 +1,11 @@
 //! Scripts, line by line.
 
-ghost use Rattle.std.specs.Prelude.{◌≡◌, ◌+◌, ◌≤◌, ◌<◌, length, map, IfErr, OnErr, OnOk, Result, ℕ};
+ghost use Rattle.std.specs.Prelude.{◌≡◌, ◌⊎◌, ◌+◌, ◌≤◌, ◌<◌, length, map, IfErr, IfOk, OnErr, OnOk, Result, ℕ};
 ghost use Rattle.std.specs.Prelude as prelude;
 ghost use Rattle.call_scripts.specs.declared.script.Line as declared;
+ghost use Rattle.call_scripts.specs.declared.script.Script as spelled;
 ghost use Rattle.std.specs.Str.Lines.{lines};
+ghost use Rattle.call_scripts.specs.Lines.{Blames, IsScript};
 ghost use Rattle.call_scripts.specs.Reading as reading;
 ghost use Rattle.call_scripts.specs.Reading.{Gives, GivesLines, Refuses, add_line, line_of, script_of, with_lines, words_line_of};
 
@@ -17,9 +19,18 @@ use xp_base::List;
 /// The longest script, in bytes.
 pub const MAX_SCRIPT: usize = 1_048_576;
 
-/// The script that the bytes spell.
+/// The script that the bytes spell, which is at most one.
+///
+/// Lines end in LF, and one CR directly before it is dropped; the last line may lack its LF. A line has only tabs and
+/// the bytes from 20 to 7e, in hexadecimal; spaces and tabs separate its words. A line with no word, or whose first
+/// word begins with `#`, is nothing. All lines are counted, from 1.
+///
+/// `Fault` names the first line that has no reading; where each line has one, it never comes. `Memory` is free.
 pub fn read_script(alloc: Global, bytes: &[u8]) -> Result<Script, ScriptError>
     requires { length bytes.now ≤ 1048576 }
+    ensures ok { IfOk result (λ script. IsScript bytes.now script) }
+    ensures only { (script : spelled.Script) → IsScript bytes.now script → (result ≡ Ok script) ⊎ (result ≡ Err ScriptError.Memory) }
+    ensures err { IfErr result (Blames bytes.now) }
 {
     let lines = all_lines(alloc, bytes)?;
     Ok(Script { lines })
