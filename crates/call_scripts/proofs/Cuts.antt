@@ -7,7 +7,7 @@ use Rattle.std.proofs.lemmas.Bool.{false≢true, eqb-true, eq-eqb, ltb-true, lt-
 use Rattle.std.proofs.Math.Numerals.{one-add}
 use Rattle.std.proofs.lemmas.List.Splits.{slice_split_at, slice_split_none, length-slice_split}
 use Rattle.call_scripts.specs.Reading.{cut_at}
-use Rattle.call_scripts.proofs.Tests.{both, not_true}
+use Rattle.call_scripts.proofs.Choices.{both, not_true}
 use Rattle.call_scripts.specs.Spellings.{Word}
 
 -- no byte of the word is the mark
@@ -92,7 +92,7 @@ pub lines_cut : (text line rest : Word) → cut_at 10 text ≡ Some (line, rest)
 lines_cut text line rest is =
     let parts = cut_gives 10 text line rest is in
     let split : slice_split (λ b. eqb b 10) text ≡ line ∷ slice_split (λ b. eqb b 10) rest =
-        rw parts.0 (slice_split_at (λ b. eqb b 10) line 10 rest (lacks_all 10 line parts.1) refl) in
+    rw parts.0 (slice_split_at (λ b. eqb b 10) line 10 rest (lacks_all 10 line parts.1) refl) in
     let some : 0 < length (slice_split (λ b. eqb b 10) rest) = omega (arith, length-slice_split (λ b. eqb b 10) rest) in
     ap lines_of_parts split ∙ first_part line (slice_split (λ b. eqb b 10) rest) some
 

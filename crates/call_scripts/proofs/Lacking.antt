@@ -12,7 +12,7 @@ use Rattle.std.proofs.lemmas.Str.Parse.{digit_from_value}
 use Rattle.xp_base.specs.Digits.{IsNatural, IsDecimal, without_minus}
 use Rattle.call_scripts.specs.Reading.{after}
 use Rattle.call_scripts.specs.Lines.{IsValue, IsTerm}
-use Rattle.call_scripts.proofs.Tests.{both}
+use Rattle.call_scripts.proofs.Choices.{both}
 use Rattle.call_scripts.specs.Spellings.{Word, is_name, is_name_byte, is_register, is_lower, IsNumber, IsDigits}
 use Rattle.call_scripts.specs.declared.script.Term.{Term}
 use Rattle.call_scripts.specs.declared.script.Term.TheVariants as terms

@@ -23,7 +23,7 @@ use Rattle.call_scripts.proofs.Lacking.{name_lacks}
 use Rattle.call_scripts.proofs.Cuts.{lacks}
 use Rattle.call_scripts.proofs.Numerals.{digits_read}
 use Rattle.call_scripts.proofs.Parts.{arg_read, arg_spelled, frame_item_read, frame_item_spelled, item_read, item_spelled, member_read, member_spelled, same_bytes, target_read, target_spelled, value_read, value_spelled}
-use Rattle.call_scripts.proofs.Tests.{bound, chosen, ways}
+use Rattle.call_scripts.proofs.Choices.{bound, chosen, ways}
 
 -- ---- one word for each value
 
@@ -43,21 +43,20 @@ each_spelled read Is one (w ∷ ws) (v ∷ vs) h = rw (one w v h.0, each_spelled
 
 -- ---- what each command reads
 
-IsBehind : Word → List Word → Act → Type 0
-IsBehind command ws act = IsAct (command ∷ ws) act
-
 fill_read : (name kind text : Word) (fill : Fill) → IsName name → fill_kind_of kind text ≡ Some fill → IsAct (codes "data" ∷ name ∷ kind ∷ text ∷ []) (Block name fill)
 unfolding fill_kind_of
 fill_read name kind text fill is h =
     elim (chosen (bytes_eq kind (codes "zero")) _ _ _ h) as (λ _. IsAct (codes "data" ∷ name ∷ kind ∷ text ∷ []) (Block name fill)) [
-      inl p ↦ let n = bound (digits_of 10 20 text) _ fill p.1 in
-        subst (λ f. IsAct (codes "data" ∷ name ∷ kind ∷ text ∷ []) (Block name f)) (same_Some _ fill n.2)
-        (text, ap (λ k. codes "data" ∷ name ∷ k ∷ text ∷ []) (same_bytes kind (codes "zero") p.0), is, digits_read 10 20 text n.0 n.1)
-    | inr p ↦ elim (chosen (bytes_eq kind (codes "iid")) _ _ _ p.1) as (λ _. IsAct (codes "data" ∷ name ∷ kind ∷ text ∷ []) (Block name fill)) [
-        inl q ↦ let iid = bound (iid_of text) _ fill q.1 in
-          subst (λ f. IsAct (codes "data" ∷ name ∷ kind ∷ text ∷ []) (Block name f)) (same_Some _ fill iid.2)
-          (text, ap (λ k. codes "data" ∷ name ∷ k ∷ text ∷ []) (same_bytes kind (codes "iid") q.0), is, iid_read text iid.0 iid.1)
-      | inr q ↦ absurd (none-some fill q.1) ] ]
+      | inl p ↦ let n = bound (digits_of 10 20 text) _ fill p.1 in
+          subst (λ f. IsAct (codes "data" ∷ name ∷ kind ∷ text ∷ []) (Block name f)) (same_Some _ fill n.2)
+          (text, ap (λ k. codes "data" ∷ name ∷ k ∷ text ∷ []) (same_bytes kind (codes "zero") p.0), is, digits_read 10 20 text n.0 n.1)
+      | inr p ↦ elim (chosen (bytes_eq kind (codes "iid")) _ _ _ p.1) as (λ _. IsAct (codes "data" ∷ name ∷ kind ∷ text ∷ []) (Block name fill)) [
+        | inl q ↦ let iid = bound (iid_of text) _ fill q.1 in
+            subst (λ f. IsAct (codes "data" ∷ name ∷ kind ∷ text ∷ []) (Block name f)) (same_Some _ fill iid.2)
+            (text, ap (λ k. codes "data" ∷ name ∷ k ∷ text ∷ []) (same_bytes kind (codes "iid") q.0), is, iid_read text iid.0 iid.1)
+        | inr q ↦ absurd (none-some fill q.1)
+      ]
+    ]
 
 block_read : (ws : List Word) (act : Act) → block_of ws ≡ Some act → IsAct (codes "data" ∷ ws) act
 block_read [] act h = absurd (none-some act h)
@@ -123,13 +122,14 @@ enter_read (name ∷ member ∷ ws) act h =
 show_read : (ws : List Word) (act : Act) → show_of ws ≡ Some act → IsAct (codes "show" ∷ ws) act
 show_read [] act h = absurd (none-some act h)
 show_read (w ∷ []) act h = elim (ways (after (codes "$") w) _ _ _ h) as (λ _. IsAct (codes "show" ∷ w ∷ []) act) [
-    inl q ↦ let n = bound (name_of q.0) _ act q.2 in
+  | inl q ↦ let n = bound (name_of q.0) _ act q.2 in
       let read = name_read q.0 n.0 n.1 in
       subst (λ a. IsAct (codes "show" ∷ w ∷ []) a) (same_Some _ act n.2)
       (ap (λ v. codes "show" ∷ v ∷ []) (after_read (codes "$") w q.0 q.1 ∙ ap (λ v. codes "$" ++ v) read.0), read.1)
   | inr q ↦ let n = bound (name_of w) _ act q.1 in
       let read = name_read w n.0 n.1 in
-      subst (λ a. IsAct (codes "show" ∷ w ∷ []) a) (same_Some _ act n.2) (ap (λ v. codes "show" ∷ v ∷ []) read.0, read.1) ]
+      subst (λ a. IsAct (codes "show" ∷ w ∷ []) a) (same_Some _ act n.2) (ap (λ v. codes "show" ∷ v ∷ []) read.0, read.1)
+]
 show_read (w ∷ v ∷ ws) act h = absurd (none-some act h)
 
 poke_read : (ws : List Word) (act : Act) → poke_of ws ≡ Some act → IsAct (codes "poke" ∷ ws) act
@@ -157,8 +157,9 @@ by_command : (command name : Word) (ws : List Word) (act : Act) (reading : Optio
     → (other : Option Act) → (other ≡ Some act → IsAct (command ∷ ws) act)
     → cond (bytes_eq command name) reading other ≡ Some act → IsAct (command ∷ ws) act
 by_command command name ws act reading here other later h = elim (chosen (bytes_eq command name) reading other (Some act) h) as (λ _. IsAct (command ∷ ws) act) [
-    inl p ↦ here command (same_bytes command name p.0) p.1
-  | inr p ↦ later p.1 ]
+  | inl p ↦ here command (same_bytes command name p.0) p.1
+  | inr p ↦ later p.1
+]
 
 command_read : (name : Word) (ws : List Word) (act : Act) (reading : Option Act) → (reading ≡ Some act → IsAct (name ∷ ws) act)
     → (w : Word) → w ≡ name → reading ≡ Some act → IsAct (w ∷ ws) act
@@ -221,9 +222,10 @@ words_read : (number : ℕ) (ws : List Word) (line : Option Line) → words_line
 unfolding words_line_of
 words_read number [] line h = subst (λ l. WordsRead number [] l) (same_Some None line h) tt
 words_read number (w ∷ ws) line h = elim (chosen (is_comment w) _ _ _ h) as (λ _. WordsRead number (w ∷ ws) line) [
-    inl p ↦ subst (λ l. WordsRead number (w ∷ ws) l) (same_Some _ line p.1) (eqb-true (get_or w 0 0) 35 p.0)
+  | inl p ↦ subst (λ l. WordsRead number (w ∷ ws) l) (same_Some _ line p.1) (eqb-true (get_or w 0 0) 35 p.0)
   | inr p ↦ let act = bound (act_of (w ∷ ws)) _ line p.1 in
-      subst (λ l. WordsRead number (w ∷ ws) l) (same_Some _ line act.2) (refl, refl, act_read (w ∷ ws) act.0 act.1) ]
+      subst (λ l. WordsRead number (w ∷ ws) l) (same_Some _ line act.2) (refl, refl, act_read (w ∷ ws) act.0 act.1)
+]
 
 no_act : (act : Act) → act_of [] ≡ Some act → ⊥
 unfolding act_of
@@ -244,8 +246,9 @@ words_spelled number (w ∷ ws) (Some line) h =
 pub line_read : (number : ℕ) (text : Word) (line : Option Line) → line_of number text ≡ Some line → IsRead number text line
 unfolding line_of
 line_read number text line h = elim (chosen (is_plain text) _ _ _ h) as (λ _. IsRead number text line) [
-    inl p ↦ joined_read line p.0 (words_read number (words text) line p.1)
-  | inr p ↦ absurd (none-some line p.1) ]
+  | inl p ↦ joined_read line p.0 (words_read number (words text) line p.1)
+  | inr p ↦ absurd (none-some line p.1)
+]
   where
     joined_read : (line : Option Line) → is_plain text ≡ true → WordsRead number (words text) line → IsRead number text line
     joined_read None plain h = (plain, h)

@@ -13,7 +13,7 @@ use Rattle.std.proofs.Math.Nat.{pow-le-pow_right}
 use Rattle.uuid.specs.Text.{parsed, parsed_hyphenated}
 use Rattle.xp_base.specs.Digits.{IsNatural, IsDecimal, decimal_value}
 use Rattle.call_scripts.specs.Reading.{digits_of, decimal_of, number_of}
-use Rattle.call_scripts.proofs.Tests.{both, untested}
+use Rattle.call_scripts.proofs.Choices.{both, untested}
 use Rattle.call_scripts.specs.Spellings.{Word}
 
 -- every byte is a digit, as a test and as a fact

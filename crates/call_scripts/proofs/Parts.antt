@@ -29,7 +29,7 @@ use Rattle.call_scripts.proofs.Atoms.{after_other, after_read, after_spelled, be
 use Rattle.call_scripts.proofs.Cuts.{cut_first, cut_gives, cut_none, lacks}
 use Rattle.call_scripts.proofs.Lacking.{digits_lack, name_lacks, number_after, number_other, register_lacks, term_lacks, value_lacks, value_other, value_some}
 use Rattle.call_scripts.proofs.Numerals.{digits_read}
-use Rattle.call_scripts.proofs.Tests.{both, bound, chosen, fails_second, fails_too, ways}
+use Rattle.call_scripts.proofs.Choices.{both, bound, chosen, fails_second, fails_too, ways}
 
 pub same_bytes : (w v : Word) → bytes_eq w v ≡ true → w ≡ v
 same_bytes w v h = (bytes_eq-Decides w v).0 h
@@ -51,13 +51,16 @@ named make prefix w name v e h =
 pub value_read : (w : Word) (v : ValueWord) → value_of w ≡ Some v → IsValue w v
 unfolding value_of
 value_read w v h = elim (chosen (bytes_eq w (codes "null")) _ _ _ h) as (λ _. IsValue w v) [
-    inl p ↦ subst (λ u. IsValue w u) (same_Some _ v p.1) (inr (same_bytes w (codes "null") p.0, refl))
+  | inl p ↦ subst (λ u. IsValue w u) (same_Some _ v p.1) (inr (same_bytes w (codes "null") p.0, refl))
   | inr p ↦ elim (ways (after (codes "@") w) _ _ _ p.1) as (λ _. IsValue w v) [
-      inl q ↦ let n = named values.Address (codes "@") w q.0 v q.1 q.2 in subst (λ u. IsValue w u) n.1 (n.2, n.3)
+    | inl q ↦ let n = named values.Address (codes "@") w q.0 v q.1 q.2 in subst (λ u. IsValue w u) n.1 (n.2, n.3)
     | inr q ↦ elim (ways (after (codes "$") w) _ _ _ q.1) as (λ _. IsValue w v) [
-        inl r ↦ let n = named values.Variable (codes "$") w r.0 v r.1 r.2 in subst (λ u. IsValue w u) n.1 (n.2, n.3)
+      | inl r ↦ let n = named values.Variable (codes "$") w r.0 v r.1 r.2 in subst (λ u. IsValue w u) n.1 (n.2, n.3)
       | inr r ↦ let n = bound (number_of w) (λ n. Some (values.Number n)) v r.1 in
-          subst (λ u. IsValue w u) (same_Some _ v n.2) (inl (number_read w n.0 n.1)) ] ] ]
+          subst (λ u. IsValue w u) (same_Some _ v n.2) (inl (number_read w n.0 n.1))
+    ]
+  ]
+]
 
 pub value_spelled : (w : Word) (v : ValueWord) → IsValue w v → value_of w ≡ Some v
 unfolding value_of after
@@ -70,9 +73,10 @@ value_spelled w (values.Variable name) h = rw h.0 (rw (name_spelled name h.1) re
 pub target_read : (w : Word) (t : Target) → target_of w ≡ Some t → IsTarget w t
 unfolding target_of
 target_read w t h = elim (ways (after (codes "$") w) _ _ _ h) as (λ _. IsTarget w t) [
-    inl q ↦ let n = named targets.Variable (codes "$") w q.0 t q.1 q.2 in subst (λ u. IsTarget w u) n.1 (n.2, n.3)
+  | inl q ↦ let n = named targets.Variable (codes "$") w q.0 t q.1 q.2 in subst (λ u. IsTarget w u) n.1 (n.2, n.3)
   | inr q ↦ let n = bound (name_of w) (λ n. Some (targets.Block n)) t q.1 in
-      let read = name_read w n.0 n.1 in subst (λ u. IsTarget w u) (same_Some _ t n.2) (read.0, read.1) ]
+      let read = name_read w n.0 n.1 in subst (λ u. IsTarget w u) (same_Some _ t n.2) (read.0, read.1)
+]
 
 pub target_spelled : (w : Word) (t : Target) → IsTarget w t → target_of w ≡ Some t
 unfolding target_of after
@@ -93,14 +97,16 @@ method_read : (iface w : Word) (m : MemberRef) → method_of iface w ≡ Some m
     → (m.iface ≡ iface) × (w ≡ kind_text m.kind ++ m.name) × IsName m.name
 unfolding method_of
 method_read iface w m h = elim (ways (after (codes "get:") w) _ _ _ h) as (λ _. (m.iface ≡ iface) × (w ≡ kind_text m.kind ++ m.name) × IsName m.name) [
-    inl q ↦ let n = named (λ name. record { iface = iface; kind = Get; name = name }) (codes "get:") w q.0 m q.1 q.2 in
+  | inl q ↦ let n = named (λ name. record { iface = iface; kind = Get; name = name }) (codes "get:") w q.0 m q.1 q.2 in
       subst (λ u. (u.iface ≡ iface) × (w ≡ kind_text u.kind ++ u.name) × IsName u.name) n.1 (refl, n.2, n.3)
   | inr q ↦ elim (ways (after (codes "set:") w) _ _ _ q.1) as (λ _. (m.iface ≡ iface) × (w ≡ kind_text m.kind ++ m.name) × IsName m.name) [
-      inl r ↦ let n = named (λ name. record { iface = iface; kind = Set; name = name }) (codes "set:") w r.0 m r.1 r.2 in
+    | inl r ↦ let n = named (λ name. record { iface = iface; kind = Set; name = name }) (codes "set:") w r.0 m r.1 r.2 in
         subst (λ u. (u.iface ≡ iface) × (w ≡ kind_text u.kind ++ u.name) × IsName u.name) n.1 (refl, n.2, n.3)
     | inr r ↦ let n = bound (name_of w) (λ name. Some (record { iface = iface; kind = Plain; name = name })) m r.1 in
         let read = name_read w n.0 n.1 in
-        subst (λ u. (u.iface ≡ iface) × (w ≡ kind_text u.kind ++ u.name) × IsName u.name) (same_Some _ m n.2) (refl, read.0, read.1) ] ]
+        subst (λ u. (u.iface ≡ iface) × (w ≡ kind_text u.kind ++ u.name) × IsName u.name) (same_Some _ m n.2) (refl, read.0, read.1)
+  ]
+]
 
 -- a name is none of the words that end in a colon
 no_colon : (prefix name : Word) → lacks 58 prefix ≡ false → IsName name → after prefix name ≡ None
@@ -109,6 +115,7 @@ no_colon prefix name colon is = by_prefix (after prefix name) refl
     lacks_front : (a b : Word) → lacks 58 a ≡ false → lacks 58 (a ++ b) ≡ false
     lacks_front [] b h = absurd (false≢true (sym h))
     lacks_front (c ∷ a) b h = fails_too (not (eqb c 58)) (lacks 58 a) (lacks 58 (a ++ b)) h (lacks_front a b)
+
     by_prefix : (o : Option Word) → after prefix name ≡ o → o ≡ None
     by_prefix None e = refl
     by_prefix (Some rest) e =
@@ -158,20 +165,23 @@ out_read front w a h =
     let name = bound (name_of w) _ a h in
     let read = name_read w name.0 name.1 in
     elim (chosen (eqb (length front) 0) _ _ _ name.2) as (λ _. IsArg (front ++ codes "->" ++ w) a) [
-      inl p ↦ subst (λ u. IsArg (front ++ codes "->" ++ w) u) (same_Some _ a p.1) (ap (λ v. v ++ codes "->" ++ w) (nil_from_length front (eqb-true (length front) 0 p.0)) ∙ ap (λ v. codes "->" ++ v) read.0, read.1)
-    | inr p ↦ let value = bound (value_of front) _ a p.1 in
-        subst (λ u. IsArg (front ++ codes "->" ++ w) u) (same_Some _ a value.2) (front, ap (λ v. front ++ codes "->" ++ v) read.0, value_read front value.0 value.1, read.1) ]
+      | inl p ↦ subst (λ u. IsArg (front ++ codes "->" ++ w) u) (same_Some _ a p.1) (ap (λ v. v ++ codes "->" ++ w) (nil_from_length front (eqb-true (length front) 0 p.0)) ∙ ap (λ v. codes "->" ++ v) read.0, read.1)
+      | inr p ↦ let value = bound (value_of front) _ a p.1 in
+          subst (λ u. IsArg (front ++ codes "->" ++ w) u) (same_Some _ a value.2) (front, ap (λ v. front ++ codes "->" ++ v) read.0, value_read front value.0 value.1, read.1)
+    ]
 
 pub arg_read : (w : Word) (a : ArgWord) → arg_of w ≡ Some a → IsArg w a
 unfolding arg_of
 arg_read w a h = elim (chosen (bytes_eq w (codes "_")) _ _ _ h) as (λ _. IsArg w a) [
-    inl p ↦ subst (λ u. IsArg w u) (same_Some _ a p.1) (same_bytes w (codes "_") p.0)
+  | inl p ↦ subst (λ u. IsArg w u) (same_Some _ a p.1) (same_bytes w (codes "_") p.0)
   | inr p ↦ elim (ways (cut_at 62 w) _ _ _ p.1) as (λ _. IsArg w a) [
-      inl q ↦ let parts = cut_gives 62 w q.0.0 q.0.1 q.1 in
+    | inl q ↦ let parts = cut_gives 62 w q.0.0 q.0.1 q.1 in
         let front = bound (before (codes "-") q.0.0) _ a q.2 in
         let spelled : w ≡ front.0 ++ codes "->" ++ q.0.1 = parts.0 ∙ (ap (λ v. v ++ 62 ∷ q.0.1) (before_read (codes "-") q.0.0 front.0 front.1) ∙ arrow front.0 q.0.1) in
         subst (λ v. IsArg v a) (sym spelled) (out_read front.0 q.0.1 a front.2)
-    | inr q ↦ let value = bound (value_of w) _ a q.1 in subst (λ u. IsArg w u) (same_Some _ a value.2) (value_read w value.0 value.1) ] ]
+    | inr q ↦ let value = bound (value_of w) _ a q.1 in subst (λ u. IsArg w u) (same_Some _ a value.2) (value_read w value.0 value.1)
+  ]
+]
 
 lacks_join : (mark : ℕ) (a b : Word) → lacks mark a ≡ true → lacks mark b ≡ true → lacks mark (a ++ b) ≡ true
 lacks_join mark [] b h k = k
@@ -189,13 +199,13 @@ value_cell front name v value is =
     let long : 2 ≤ length ((front ++ codes "-") ++ 62 ∷ name) = omega (arith, length-append (front ++ codes "-") (62 ∷ name), length-append front (codes "-")) in
     rw (sym (arrow front name))
     (rw (
-       long_other ((front ++ codes "-") ++ 62 ∷ name) long,
-       cut_first 62 (front ++ codes "-") name (lacks_join 62 front (codes "-") (value_lacks front v value) refl),
-       before_spelled (codes "-") front,
-       name_spelled name is,
-       test_some (length front) some,
-       value_spelled front v value,
-     ) refl)
+      long_other ((front ++ codes "-") ++ 62 ∷ name) long,
+      cut_first 62 (front ++ codes "-") name (lacks_join 62 front (codes "-") (value_lacks front v value) refl),
+      before_spelled (codes "-") front,
+      name_spelled name is,
+      test_some (length front) some,
+      value_spelled front v value,
+    ) refl)
 
 pub arg_spelled : (w : Word) (a : ArgWord) → IsArg w a → arg_of w ≡ Some a
 unfolding arg_of out_of before
@@ -215,12 +225,15 @@ at_place radix longest make prefix w p t e h =
 pub term_read : (w : Word) (t : Term) → term_of w ≡ Some t → IsTerm w t
 unfolding term_of
 term_read w t h = elim (ways (after (codes "@") w) _ _ _ h) as (λ _. IsTerm w t) [
-    inl q ↦ let n = named terms.Address (codes "@") w q.0 t q.1 q.2 in subst (λ u. IsTerm w u) n.1 (n.2, n.3)
+  | inl q ↦ let n = named terms.Address (codes "@") w q.0 t q.1 q.2 in subst (λ u. IsTerm w u) n.1 (n.2, n.3)
   | inr q ↦ elim (ways (after (codes "$a") w) _ _ _ q.1) as (λ _. IsTerm w t) [
-      inl r ↦ let at = at_place 10 3 terms.Arg (codes "$a") w r.0 t r.1 r.2 in subst (λ u. IsTerm w u) at.1 (r.0, at.2, at.3)
+    | inl r ↦ let at = at_place 10 3 terms.Arg (codes "$a") w r.0 t r.1 r.2 in subst (λ u. IsTerm w u) at.1 (r.0, at.2, at.3)
     | inr r ↦ elim (ways (after (codes "*a") w) _ _ _ r.1) as (λ _. IsTerm w t) [
-        inl s ↦ let at = at_place 10 3 terms.InCell (codes "*a") w s.0 t s.1 s.2 in subst (λ u. IsTerm w u) at.1 (s.0, at.2, at.3)
-      | inr s ↦ let n = bound (number_of w) (λ n. Some (terms.Number n)) t s.1 in subst (λ u. IsTerm w u) (same_Some _ t n.2) (number_read w n.0 n.1) ] ] ]
+      | inl s ↦ let at = at_place 10 3 terms.InCell (codes "*a") w s.0 t s.1 s.2 in subst (λ u. IsTerm w u) at.1 (s.0, at.2, at.3)
+      | inr s ↦ let n = bound (number_of w) (λ n. Some (terms.Number n)) t s.1 in subst (λ u. IsTerm w u) (same_Some _ t n.2) (number_read w n.0 n.1)
+    ]
+  ]
+]
 
 pub term_spelled : (w : Word) (t : Term) → IsTerm w t → term_of w ≡ Some t
 unfolding term_of after
@@ -234,11 +247,12 @@ sum_read : (at : ℕ) (w : Word) (i : ReplyItem) → sum_of at w ≡ Some i
     → (first : Term) × (second : Option Term) × (items.Set at first second ≡ i) × IsSum w first second
 unfolding sum_of
 sum_read at w i h = elim (ways (cut_at 43 w) _ _ _ h) as (λ _. (first : Term) × (second : Option Term) × (items.Set at first second ≡ i) × IsSum w first second) [
-    inl q ↦ let parts = cut_gives 43 w q.0.0 q.0.1 q.1 in
+  | inl q ↦ let parts = cut_gives 43 w q.0.0 q.0.1 q.1 in
       let first = bound (term_of q.0.0) _ i q.2 in
       let second = bound (term_of q.0.1) _ i first.2 in
       (first.0, Some second.0, same_Some _ i second.2, (q.0.0, q.0.1, parts.0 ∙ marked 43 q.0.0 q.0.1, term_read q.0.0 first.0 first.1, term_read q.0.1 second.0 second.1))
-  | inr q ↦ let first = bound (term_of w) _ i q.1 in (first.0, None, same_Some _ i first.2, term_read w first.0 first.1) ]
+  | inr q ↦ let first = bound (term_of w) _ i q.1 in (first.0, None, same_Some _ i first.2, term_read w first.0 first.1)
+]
 
 sum_spelled : (at : ℕ) (w : Word) (first : Term) (second : Option Term) → IsSum w first second → sum_of at w ≡ Some (items.Set at first second)
 unfolding sum_of
@@ -272,7 +286,7 @@ fill_read w i h =
     let hex = bound (after (codes "=") ends.0.1) _ i offset.2 in
     let bytes = bound (bytes_of hex.0) _ i hex.2 in
     let spelled : codes "[a" ++ w ≡ codes "[a" ++ cut.0.0 ++ codes "+" ++ ends.0.0 ++ codes "]=" ++ hex.0 =
-        ap (λ v. codes "[a" ++ v) (parts.0 ∙ ap (λ v. cut.0.0 ++ 43 ∷ v) (more.0 ∙ ap (λ v. ends.0.0 ++ 93 ∷ v) (after_read (codes "=") ends.0.1 hex.0 hex.1))) ∙ marks (codes "[a") cut.0.0 ends.0.0 hex.0 in
+    ap (λ v. codes "[a" ++ v) (parts.0 ∙ ap (λ v. cut.0.0 ++ 43 ∷ v) (more.0 ∙ ap (λ v. ends.0.0 ++ 93 ∷ v) (after_read (codes "=") ends.0.1 hex.0 hex.1))) ∙ marks (codes "[a") cut.0.0 ends.0.0 hex.0 in
     subst (λ u. IsItem (codes "[a" ++ w) u) (same_Some _ i bytes.2)
     (cut.0.0, ends.0.0, hex.0, spelled, digits_read 10 3 cut.0.0 at.0 at.1, digits_read 10 8 ends.0.0 offset.0 offset.1, bytes_read hex.0 bytes.0 bytes.1)
   where
@@ -282,11 +296,13 @@ fill_read w i h =
 pub item_read : (w : Word) (i : ReplyItem) → item_of w ≡ Some i → IsItem w i
 unfolding item_of
 item_read w i h = elim (ways (after (codes "result=") w) _ _ _ h) as (λ _. IsItem w i) [
-    inl q ↦ let n = bound (digits_of 16 8 q.0) _ i q.2 in
+  | inl q ↦ let n = bound (digits_of 16 8 q.0) _ i q.2 in
       subst (λ u. IsItem w u) (same_Some _ i n.2) (q.0, after_read (codes "result=") w q.0 q.1, digits_read 16 8 q.0 n.0 n.1)
   | inr q ↦ elim (ways (after (codes "a") w) _ _ _ q.1) as (λ _. IsItem w i) [
-      inl r ↦ subst (λ v. IsItem v i) (sym (after_read (codes "a") w r.0 r.1)) (set_read r.0 i r.2)
-    | inr r ↦ let fill = bound (after (codes "[a") w) fill_of i r.1 in subst (λ v. IsItem v i) (sym (after_read (codes "[a") w fill.0 fill.1)) (fill_read fill.0 i fill.2) ] ]
+    | inl r ↦ subst (λ v. IsItem v i) (sym (after_read (codes "a") w r.0 r.1)) (set_read r.0 i r.2)
+    | inr r ↦ let fill = bound (after (codes "[a") w) fill_of i r.1 in subst (λ v. IsItem v i) (sym (after_read (codes "[a") w fill.0 fill.1)) (fill_read fill.0 i fill.2)
+  ]
+]
 
 pub item_spelled : (w : Word) (i : ReplyItem) → IsItem w i → item_of w ≡ Some i
 unfolding item_of set_of fill_of after
@@ -298,12 +314,12 @@ item_spelled w (items.Fill at offset bytes) h =
     let spelled : w ≡ 91 ∷ 97 ∷ (h.0 ++ 43 ∷ (h.1 ++ 93 ∷ 61 ∷ h.2)) = h.3 ∙ simp append_assoc in
     rw spelled
     (rw (
-       cut_first 43 h.0 (h.1 ++ 93 ∷ 61 ∷ h.2) (digits_lack 10 3 43 h.0 at refl h.4),
-       digits_spelled 10 3 h.0 at h.4,
-       cut_first 93 h.1 (61 ∷ h.2) (digits_lack 10 8 93 h.1 offset refl h.5),
-       digits_spelled 10 8 h.1 offset h.5,
-       bytes_spelled h.2 bytes h.6,
-     ) refl)
+      cut_first 43 h.0 (h.1 ++ 93 ∷ 61 ∷ h.2) (digits_lack 10 3 43 h.0 at refl h.4),
+      digits_spelled 10 3 h.0 at h.4,
+      cut_first 93 h.1 (61 ∷ h.2) (digits_lack 10 8 93 h.1 offset refl h.5),
+      digits_spelled 10 8 h.1 offset h.5,
+      bytes_spelled h.2 bytes h.6,
+    ) refl)
 
 -- ---- frame items
 
@@ -314,14 +330,16 @@ frame_item_read w i h =
     let parts = cut_gives 61 w cut.0.0 cut.0.1 cut.1 in
     let spelled : w ≡ cut.0.0 ++ codes "=" ++ cut.0.1 = parts.0 ∙ marked 61 cut.0.0 cut.0.1 in
     elim (chosen (bytes_eq cut.0.0 (codes "stack")) _ _ _ cut.2) as (λ _. IsFrameItem w i) [
-      inl p ↦ let bytes = bound (bytes_of cut.0.1) _ i p.1 in
-        let stack : w ≡ codes "stack=" ++ cut.0.1 = spelled ∙ ap (λ v. v ++ codes "=" ++ cut.0.1) (same_bytes cut.0.0 (codes "stack") p.0) in
-        subst (λ u. IsFrameItem w u) (same_Some _ i bytes.2) (cut.0.1, stack, bytes_read cut.0.1 bytes.0 bytes.1)
-    | inr p ↦ elim (chosen (is_register cut.0.0) _ _ _ p.1) as (λ _. IsFrameItem w i) [
-        inl q ↦ let value = bound (digits_of 16 16 cut.0.1) _ i q.1 in
-          subst (λ u. IsFrameItem w u) (same_Some _ i value.2)
-          (cut.0.1, spelled, q.0, (λ e. false≢true (sym p.0 ∙ (bytes_eq-Decides cut.0.0 (codes "stack")).1 e)), digits_read 16 16 cut.0.1 value.0 value.1)
-      | inr q ↦ absurd (none-some i q.1) ] ]
+      | inl p ↦ let bytes = bound (bytes_of cut.0.1) _ i p.1 in
+          let stack : w ≡ codes "stack=" ++ cut.0.1 = spelled ∙ ap (λ v. v ++ codes "=" ++ cut.0.1) (same_bytes cut.0.0 (codes "stack") p.0) in
+          subst (λ u. IsFrameItem w u) (same_Some _ i bytes.2) (cut.0.1, stack, bytes_read cut.0.1 bytes.0 bytes.1)
+      | inr p ↦ elim (chosen (is_register cut.0.0) _ _ _ p.1) as (λ _. IsFrameItem w i) [
+        | inl q ↦ let value = bound (digits_of 16 16 cut.0.1) _ i q.1 in
+            subst (λ u. IsFrameItem w u) (same_Some _ i value.2)
+            (cut.0.1, spelled, q.0, (λ e. false≢true (sym p.0 ∙ (bytes_eq-Decides cut.0.0 (codes "stack")).1 e)), digits_read 16 16 cut.0.1 value.0 value.1)
+        | inr q ↦ absurd (none-some i q.1)
+      ]
+    ]
 
 pub frame_item_spelled : (w : Word) (i : EnterItem) → IsFrameItem w i → frame_item_of w ≡ Some i
 unfolding frame_item_of

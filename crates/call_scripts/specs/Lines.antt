@@ -124,6 +124,10 @@ IsRead number text None = (is_plain text ≡ true) × IsNothing (words text)
 IsRead number text (Some line) =
     (is_plain text ≡ true) × (line.number ≡ number) × (line.echo ≡ joined (words text)) × IsAct (words text) line.act
 
+-- a line of a text is read in at most one way
+abbrev pub OneReading : Type 0
+OneReading = (number : ℕ) (text : Word) (a b : Option Line) → IsRead number text a → IsRead number text b → a ≡ b
+
 -- the lines of a text, the first of which has this number, are the lines of the script, those that are nothing left out
 abbrev pub AreRead : ℕ → List Word → List Line → Type 0
 AreRead number [] all = all ≡ []

@@ -5,7 +5,7 @@ ghost use Rattle.std.specs.Prelude as prelude;
 ghost use Rattle.call_scripts.specs.declared.script.Line as declared;
 ghost use Rattle.call_scripts.specs.declared.script.Script as spelled;
 ghost use Rattle.std.specs.Str.Lines.{lines};
-ghost use Rattle.call_scripts.specs.Lines.{Blames, IsScript};
+ghost use Rattle.call_scripts.specs.Lines.{Blames, IsScript, OneReading};
 ghost use Rattle.call_scripts.specs.Reading as reading;
 ghost use Rattle.call_scripts.specs.Reading.{Gives, GivesLines, Refuses, add_line, line_of, script_of, with_lines, words_line_of};
 
@@ -36,6 +36,11 @@ pub fn read_script(alloc: Global, bytes: &[u8]) -> Result<Script, ScriptError>
     Ok(Script { lines })
 }
 
+/// A line of a text has at most one reading. It does nothing: what it ensures is the law.
+pub fn one_reading()
+    ensures { OneReading }
+{}
+
 /// The lines of the script.
 fn all_lines(alloc: Global, bytes: &[u8]) -> Result<List<Line>, ScriptError>
     requires { length bytes.now ≤ 1048576 }
@@ -44,10 +49,10 @@ fn all_lines(alloc: Global, bytes: &[u8]) -> Result<List<Line>, ScriptError>
     let mut all = List::new(alloc);
     let mut rest = bytes;
     let mut number = 0u32;
-    while let Some((text, after)) = next_line(rest) {
+    while let Some((text, more)) = next_line(rest) {
         number += 1;
         add(&mut all, alloc, text, number)?;
-        rest = after;
+        rest = more;
     }
     Ok(all)
 }

@@ -21,9 +21,15 @@ pub struct Line {
 #[derive(Debug, Drop)]
 pub enum Act {
     /// `data NAME ..`: a new block of bytes.
-    Block { name: Bytes, fill: Fill },
+    Block {
+        name: Bytes,
+        fill: Fill,
+    },
     /// `object NAME NAME`: a new object of an interface.
-    Object { name: Bytes, iface: Bytes },
+    Object {
+        name: Bytes,
+        iface: Bytes,
+    },
     /// `reply NAME MEMBER ITEM*`: how an object answers a call of a member from now on.
     Reply {
         name: Bytes,
@@ -139,7 +145,11 @@ pub enum ReplyItem {
         second: Option<Term>,
     },
     /// `[aPOS+OFF]=HEX`: bytes for the memory at the address that came at a position, from an offset on.
-    Fill { at: u16, offset: u32, bytes: Bytes },
+    Fill {
+        at: u16,
+        offset: u32,
+        bytes: Bytes,
+    },
 }
 
 /// A part of the frame that a method is entered with.

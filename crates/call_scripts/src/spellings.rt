@@ -33,10 +33,7 @@ pub(crate) fn before<'a>(word: &'a [u8], suffix: &[u8]) -> Option<&'a [u8]>
 pub(crate) fn is_name(word: &[u8]) -> bool
     ensures { result ≡ spell.is_name word.now }
 {
-    !word.is_empty()
-        && word.len() <= 255
-        && are_name_bytes(word)
-        && !word[0].is_ascii_digit()
+    !word.is_empty() && word.len() <= 255 && are_name_bytes(word) && !word[0].is_ascii_digit()
 }
 
 fn are_name_bytes(word: &[u8]) -> bool

@@ -37,7 +37,8 @@ fn without_return(line: &[u8]) -> &[u8]
 pub(crate) fn is_plain(line: &[u8]) -> bool
     ensures { result ≡ text.is_plain line.now }
 {
-    line.iter().all(|b| *b == b'\t' || (b' ' <= *b && *b <= b'~'))
+    line.iter()
+        .all(|b| *b == b'\t' || (b' ' <= *b && *b <= b'~'))
 }
 
 /// The words of a line. The one error is want of memory.

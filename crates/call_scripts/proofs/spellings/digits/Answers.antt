@@ -25,6 +25,6 @@ returns c =
     let number = c.in_ok-decimal.field-0 in
     let kept : to_z w128 (of_z w128 number) ≡ number = to_z-of_z w128 number (search rules) in
     let value : Some c.unsigned_abs.result ≡ digits_of 10 c.args.longest c.args.word.now =
-        rw (c.unsigned_abs.ensures.value, kept)
-        (ap (λ number. option_map unsigned_abs number) c.in_ok-decimal.ensures ∙ plain_digits c.args.longest c.args.word.now (sym c.if-has_minus.ensures) c.if-longest-word.false c.requires) in
+    rw (c.unsigned_abs.ensures.value, kept)
+    (ap (λ number. option_map unsigned_abs number) c.in_ok-decimal.ensures ∙ plain_digits c.args.longest c.args.word.now (sym c.if-has_minus.ensures) c.if-longest-word.false c.requires) in
     record { value = value; bound = digits_within 10 c.args.longest c.args.word.now (Some c.unsigned_abs.result) (omega arith) value }
