@@ -1,23 +1,19 @@
 -- The words one by one: what is read is spelled so, and what is spelled so is read.
-use Rattle.std.proofs.Common.{◌≡◌, ℕ, zero, suc, ◌+◌, ◌-◌, ◌<◌, ◌≤◌, Bool, true, false, not, cond, eqb, ltb, ◌&&◌, List, [], ◌∷◌, ◌++◌, length, take, drop, get_or, ℤ, pos, neg_ℤ, Option, Some, None, Result, Ok, Err, refl, sym, ap, subst, ◌∙◌, inl, inr, arith, rules, length-append}
-use Rattle.std.specs.Prelude.{◌⊎◌, codes}
-use Rattle.std.specs.List.{list_all}
-use Rattle.std.specs.Char.{digit_value}
+use Rattle.std.proofs.Common.{◌≡◌, ℕ, zero, suc, ◌-◌, ◌<◌, Bool, true, false, cond, eqb, ◌∷◌, ◌++◌, length, take, drop, ℤ, pos, neg_ℤ, Option, Some, None, Result, Ok, Err, refl, sym, ap, subst, ◌∙◌, inl, inr, arith, length-append}
+use Rattle.std.specs.Prelude.{codes}
 use Rattle.std.specs.Option.{option_map, option_map_or}
 use Rattle.std.specs.Result.{result_ok}
 use Rattle.std.specs.Str.{bytes_eq}
-use Rattle.std.specs.Str.Parse.{AllDigits, digits_value, starts_with_minus}
+use Rattle.std.specs.Str.Parse.{digits_value, starts_with_minus}
 use Rattle.std.proofs.Math.Seq.{take-append_seam, drop-append_seam}
 use Rattle.std.proofs.lemmas.List.{take-append-drop}
-use Rattle.std.proofs.lemmas.Bool.{false≢true, eqb-true, eq-eqb, ne_eqb}
+use Rattle.std.proofs.lemmas.Bool.{false≢true, ne_eqb}
 use Rattle.std.proofs.lemmas.Option.{cond_some, none-some, same_Some}
 use Rattle.std.proofs.lemmas.Slice.Eq.{bytes_eq-Decides}
-use Rattle.std.proofs.lemmas.Str.Parse.{digit_from_value}
 use Rattle.hex.specs.Hex.{decode_of}
-use Rattle.xp_base.specs.Digits.{IsNatural, IsHex, IsDecimal, decimal_value, hex_value, without_minus}
+use Rattle.xp_base.specs.Digits.{IsNatural, IsDecimal, decimal_value}
 use Rattle.call_scripts.specs.Reading.{after, before, bytes_of, decimal_of, digits_of, iid_of, name_of, number_of}
-use Rattle.call_scripts.specs.Spellings.{Word, is_name, is_name_byte, is_register, IsNumber, IsDigits, IsBytes, IsIid}
-use Rattle.call_scripts.proofs.Cuts.{lacks}
+use Rattle.call_scripts.specs.Spellings.{Word, is_name, IsNumber, IsDigits, IsBytes, IsIid}
 use Rattle.call_scripts.proofs.Numerals.{digits_yes, digits_read}
 
 -- ---- prefixes and suffixes

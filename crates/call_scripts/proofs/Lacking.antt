@@ -1,15 +1,13 @@
 -- Which bytes a word has not, so that a mark in a line is the first of its kind.
-use Rattle.std.proofs.Common.{◌≡◌, ℕ, zero, suc, ◌+◌, ◌<◌, ◌≤◌, Bool, true, false, not, cond, eqb, ltb, leb, get_or, ◌&&◌, List, [], ◌∷◌, ◌++◌, length, ℤ, Option, Some, None, refl, sym, ap, subst, ◌∙◌, inl, inr, arith, rules}
+use Rattle.std.proofs.Common.{◌≡◌, ℕ, ◌<◌, ◌≤◌, Bool, true, false, not, cond, eqb, ltb, leb, get_or, ◌&&◌, [], ◌∷◌, length, ℤ, None, refl, sym, ap, subst, ◌∙◌, inl, inr, arith}
 use Rattle.std.specs.Prelude.{◌⊎◌, codes}
 use Rattle.std.specs.List.{list_all}
-use Rattle.std.specs.Char.{is_digit, is_ascii_digit, digit_value}
+use Rattle.std.specs.Char.{is_digit, is_ascii_digit}
 use Rattle.std.proofs.Common.{◌||◌}
 use Rattle.std.specs.Str.{bytes_eq}
-use Rattle.std.specs.Str.Parse.{AllDigits, starts_with_minus}
-use Rattle.std.proofs.lemmas.Bool.{false≢true, eqb-true, eq-eqb, ne_eqb}
-use Rattle.std.proofs.lemmas.Slice.Eq.{bytes_eq-Decides}
+use Rattle.std.proofs.lemmas.Bool.{false≢true, eqb-true, ne_eqb}
 use Rattle.std.proofs.lemmas.Str.Parse.{digit_from_value}
-use Rattle.xp_base.specs.Digits.{IsNatural, IsDecimal, without_minus}
+use Rattle.xp_base.specs.Digits.{IsNatural}
 use Rattle.call_scripts.specs.Reading.{after}
 use Rattle.call_scripts.specs.Lines.{IsValue, IsTerm}
 use Rattle.call_scripts.proofs.Choices.{both}

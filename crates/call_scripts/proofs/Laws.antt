@@ -1,6 +1,6 @@
 -- The lines of a script: what is read is spelled so, and what is spelled so is read.
-use Rattle.std.proofs.Common.{◌≡◌, ℕ, ◌+◌, Bool, true, false, not, cond, eqb, get_or, List, [], ◌∷◌, ◌++◌, length, ℤ, Option, Some, None, Result, Ok, Err, refl, sym, ap, subst, ◌∙◌, inl, inr, arith, rules}
-use Rattle.std.specs.Prelude.{◌⊎◌, codes}
+use Rattle.std.proofs.Common.{◌≡◌, ℕ, ◌+◌, Bool, true, false, cond, get_or, List, [], ◌∷◌, ◌++◌, Option, Some, None, Result, Ok, Err, refl, sym, ap, subst, ◌∙◌, inl, inr}
+use Rattle.std.specs.Prelude.{codes}
 use Rattle.std.specs.Option.{option_map_or}
 use Rattle.std.specs.Str.{bytes_eq}
 use Rattle.std.specs.Str.Lines.{lines}
@@ -14,9 +14,9 @@ use Rattle.call_scripts.specs.declared.script.Fill.{Fill}
 use Rattle.call_scripts.specs.declared.script.Fill.TheVariants.{Given, Zeros, Iid}
 use Rattle.call_scripts.specs.declared.script.Line.{Line}
 use Rattle.call_scripts.specs.declared.script.Script.{Script}
-use Rattle.call_scripts.specs.Lines.{Each, IsAct, IsName, IsNothing, IsRead, AreRead, HasReading, IsFirstUnread, IsScript, Blames, IsItem, IsArg, IsFrameItem, IsOffset}
+use Rattle.call_scripts.specs.Lines.{Each, IsAct, IsName, IsNothing, IsRead, AreRead, IsFirstUnread, IsScript, Blames, IsItem, IsArg, IsFrameItem}
 use Rattle.call_scripts.specs.Reading.{◌>>=◌, act_of, add_line, after, arg_of, block_of, bytes_of, call_of, context_of, digits_of, each_of, enter_of, fill_kind_of, frame_item_of, GivesLines, iid_of, is_comment, item_of, line_of, member_of, name_of, object_of, poke_of, reply_of, script_of, show_of, target_of, value_of, words_line_of}
-use Rattle.call_scripts.specs.Spellings.{Word, IsBytes, IsIid, IsDigits}
+use Rattle.call_scripts.specs.Spellings.{Word}
 use Rattle.call_scripts.specs.Texts.{is_plain, joined, words}
 use Rattle.call_scripts.proofs.Atoms.{after_read, after_spelled, bytes_read, bytes_spelled, digits_spelled, iid_read, iid_spelled, name_read, name_spelled}
 use Rattle.call_scripts.proofs.Lacking.{name_lacks}
@@ -258,6 +258,10 @@ pub line_spelled : (number : ℕ) (text : Word) (line : Option Line) → IsRead 
 unfolding line_of
 line_spelled number text None h = rw (h.0, words_spelled number (words text) None h.1) refl
 line_spelled number text (Some line) h = rw (h.0, words_spelled number (words text) (Some line) (h.1, h.2, h.3)) refl
+
+-- at most one reading
+pub one_line : (number : ℕ) (text : Word) (a b : Option Line) → IsRead number text a → IsRead number text b → a ≡ b
+one_line number text a b h k = same_Some a b (sym (line_spelled number text a h) ∙ line_spelled number text b k)
 
 -- ---- texts
 

@@ -1,18 +1,17 @@
 -- What the readers of numbers in `xp_base` and of IIDs in `uuid` say, as equations.
-use Rattle.std.proofs.Common.{◌≡◌, ℕ, zero, suc, ◌^◌, ◌<◌, ◌≤◌, Bool, true, false, cond, ltb, leb, ◌&&◌, List, [], ◌∷◌, length, drop, ℤ, pos, neg_ℤ, Option, Some, None, refl, sym, ap, subst, ◌∙◌, arith, rules}
+use Rattle.std.proofs.Common.{◌≡◌, ℕ, ◌^◌, ◌<◌, ◌≤◌, Bool, true, false, cond, ltb, leb, ◌&&◌, List, [], ◌∷◌, length, drop, ℤ, pos, neg_ℤ, Option, Some, None, refl, sym, ap, subst, ◌∙◌, arith}
 use Rattle.std.specs.Option.{SomeIff, IfSome, option_map}
 use Rattle.std.specs.List.{list_all}
 use Rattle.std.specs.Char.{is_digit, digit_value}
 use Rattle.std.specs.Prelude.{unsigned_abs}
-use Rattle.std.specs.Str.Parse.{AllDigits, digits_value, IsNumeral, starts_with_minus}
-use Rattle.std.proofs.lemmas.Bool.{false≢true, eqb-true, ltb-true, lt-ltb, leb-true, le-leb}
+use Rattle.std.specs.Str.Parse.{AllDigits, digits_value, starts_with_minus}
+use Rattle.std.proofs.lemmas.Bool.{eqb-true, ltb-true, lt-ltb, leb-true, le-leb}
 use Rattle.std.proofs.lemmas.Option.{cond_some, none-some}
-use Rattle.std.proofs.lemmas.Bool.Decides.{nat_tests}
 use Rattle.std.proofs.lemmas.Int.Digits.{digits_value-lt}
 use Rattle.std.proofs.Math.Nat.{pow-le-pow_right}
 use Rattle.uuid.specs.Text.{parsed, parsed_hyphenated}
 use Rattle.xp_base.specs.Digits.{IsNatural, IsDecimal, decimal_value}
-use Rattle.call_scripts.specs.Reading.{digits_of, decimal_of, number_of}
+use Rattle.call_scripts.specs.Reading.{digits_of, decimal_of}
 use Rattle.call_scripts.proofs.Choices.{both, untested}
 use Rattle.call_scripts.specs.Spellings.{Word}
 

@@ -1,6 +1,6 @@
 -- The words that are made of parts: what is read is spelled so, and what is spelled so is read.
-use Rattle.std.proofs.Common.{◌≡◌, ℕ, zero, suc, ◌+◌, ◌<◌, ◌≤◌, Bool, true, false, not, cond, eqb, List, [], ◌∷◌, ◌++◌, length, ℤ, pos, Option, Some, None, refl, sym, ap, subst, ◌∙◌, inl, inr, arith, rules, append_assoc, length-append}
-use Rattle.std.specs.Prelude.{◌⊎◌, ◌≢◌, codes}
+use Rattle.std.proofs.Common.{◌≡◌, ℕ, ◌<◌, ◌≤◌, Bool, true, false, not, eqb, [], ◌∷◌, ◌++◌, length, Option, Some, None, refl, sym, ap, subst, ◌∙◌, inl, inr, arith, append_assoc, length-append}
+use Rattle.std.specs.Prelude.{◌≢◌, codes}
 use Rattle.std.specs.Option.{option_map_or}
 use Rattle.std.specs.Str.{bytes_eq}
 use Rattle.std.proofs.lemmas.Bool.{false≢true, eqb-true}
@@ -24,7 +24,7 @@ use Rattle.call_scripts.specs.declared.script.ValueWord.{ValueWord}
 use Rattle.call_scripts.specs.declared.script.ValueWord.TheVariants as values
 use Rattle.call_scripts.specs.Lines.{IsValue, IsTarget, IsMember, IsArg, IsTerm, IsSum, IsItem, IsFrameItem, IsName, kind_text}
 use Rattle.call_scripts.specs.Reading.{◌>>=◌, after, arg_of, before, bytes_of, cut_at, digits_of, fill_of, frame_item_of, item_of, member_of, method_of, name_of, number_of, out_of, set_of, sum_of, target_of, term_of, value_of}
-use Rattle.call_scripts.specs.Spellings.{Word, is_name, is_register, IsNumber, IsDigits, IsBytes}
+use Rattle.call_scripts.specs.Spellings.{Word, is_register, IsDigits}
 use Rattle.call_scripts.proofs.Atoms.{after_other, after_read, after_spelled, before_read, before_spelled, bytes_read, bytes_spelled, digits_spelled, name_read, name_spelled, number_read, number_spelled, test_some}
 use Rattle.call_scripts.proofs.Cuts.{cut_first, cut_gives, cut_none, lacks}
 use Rattle.call_scripts.proofs.Lacking.{digits_lack, name_lacks, number_after, number_other, register_lacks, term_lacks, value_lacks, value_other, value_some}

@@ -1,5 +1,5 @@
 -- The lines of a script, one case for each form, and what it is for bytes to spell a script.
-use Rattle.std.specs.Prelude.{◌≡◌, ◌≢◌, ℕ, ◌+◌, Bool, true, false, ◌==◌, ◌⊎◌, List, [], ◌∷◌, ◌++◌, length, slice_index, ℤ, pos, codes, Option, Some, None}
+use Rattle.std.specs.Prelude.{◌≡◌, ◌≢◌, ℕ, ◌+◌, true, ◌⊎◌, List, [], ◌∷◌, ◌++◌, slice_index, pos, codes, Option, Some, None}
 use Rattle.std.specs.Str.Lines.{lines}
 use Rattle.call_scripts.specs.declared.error.ScriptError.{ScriptError}
 use Rattle.call_scripts.specs.declared.error.ScriptError.TheVariants as errors
@@ -9,7 +9,6 @@ use Rattle.call_scripts.specs.declared.script.ArgWord.{ArgWord}
 use Rattle.call_scripts.specs.declared.script.ArgWord.TheVariants as args
 use Rattle.call_scripts.specs.declared.script.EnterItem.{EnterItem}
 use Rattle.call_scripts.specs.declared.script.EnterItem.TheVariants.{Register, Stack}
-use Rattle.call_scripts.specs.declared.script.Fill.{Fill}
 use Rattle.call_scripts.specs.declared.script.Fill.TheVariants.{Given, Zeros, Iid}
 use Rattle.call_scripts.specs.declared.script.Line.{Line}
 use Rattle.call_scripts.specs.declared.script.MemberRef.{MemberRef}

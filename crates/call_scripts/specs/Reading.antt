@@ -1,5 +1,5 @@
 -- What each word and each line reads as, if it has a reading.
-use Rattle.std.specs.Prelude.{◌≡◌, ℕ, ◌+◌, ◌-◌, position, zero, suc, Bool, true, false, not, ◌&&◌, ◌||◌, if◌then◌else◌, ◌==◌, slice_index, nat_lt, nat_le, List, [], ◌∷◌, ◌++◌, length, take, drop, ℤ, pos, neg_ℤ, codes, Option, Some, None, Result, Ok, Err}
+use Rattle.std.specs.Prelude.{◌≡◌, ℕ, ◌+◌, ◌-◌, position, Bool, ◌&&◌, if◌then◌else◌, ◌==◌, slice_index, nat_lt, nat_le, List, [], ◌∷◌, ◌++◌, length, take, drop, ℤ, pos, neg_ℤ, codes, Option, Some, None, Result, Ok, Err}
 use Rattle.std.specs.List.{list_all}
 use Rattle.std.specs.Char.{is_digit}
 use Rattle.std.specs.Option.{option_map, option_map_or}
@@ -18,7 +18,6 @@ use Rattle.call_scripts.specs.declared.script.EnterItem.{EnterItem}
 use Rattle.call_scripts.specs.declared.script.Fill.{Fill}
 use Rattle.call_scripts.specs.declared.script.Line.{Line}
 use Rattle.call_scripts.specs.declared.script.MemberRef.{MemberRef}
-use Rattle.call_scripts.specs.declared.script.MemberWord.{MemberWord}
 use Rattle.call_scripts.specs.declared.script.ReplyItem.{ReplyItem}
 use Rattle.call_scripts.specs.declared.script.Target.{Target}
 use Rattle.call_scripts.specs.declared.script.Term.{Term}

@@ -1,4 +1,4 @@
-use Rattle.std.proofs.Common.{◌≡◌, sym, arith}
+use Rattle.std.proofs.Common.{sym, arith}
 use Rattle.call_scripts.proofs.Numerals.{digits_too_long, digits_from, digits_within}
 use Rattle.call_scripts.proofs.spellings.hex_digits.Goals as goal
 

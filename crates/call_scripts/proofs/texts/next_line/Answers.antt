@@ -1,5 +1,4 @@
-use Rattle.std.proofs.Common.{◌∷◌, sym, ◌∙◌, ap, length, arith, length-append}
-use Rattle.std.specs.Str.Lines.{lines}
+use Rattle.std.proofs.Common.{sym, ap, length, arith, length-append}
 use Rattle.call_scripts.proofs.Cuts.{cut_gives, lines_cut, lines_last}
 use Rattle.call_scripts.proofs.texts.next_line.Goals as goal
 

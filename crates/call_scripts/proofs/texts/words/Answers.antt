@@ -1,4 +1,4 @@
-use Rattle.std.proofs.Common.{rules, length, not, eqb, arith, refl, ◌∙◌, ap}
+use Rattle.std.proofs.Common.{rules, length, not, eqb}
 use borrow.Author.Tests.{tests}
 use Rattle.std.proofs.lemmas.Iterator.Consumers.{YieldsList-from_filter, map_from_collect}
 use Rattle.std.proofs.lemmas.Iterator.Splits.{YieldsList-from_slice_split}
