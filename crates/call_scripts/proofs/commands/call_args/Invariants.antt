@@ -1,0 +1,11 @@
+use Rattle.std.proofs.Common.{◌≡◌, length}
+use Rattle.std.specs.Prelude.{map}
+use Rattle.call_scripts.specs.Reading.{each_of, arg_of}
+use Rattle.call_scripts.proofs.Eaches.{with_front}
+use Rattle.call_scripts.proofs.commands.call_args.Given as goal
+
+abbrev pub invariant-loop-words : goal.invariant-loop-words
+invariant-loop-words l = with_front l.args (each_of arg_of (map (λ word. word.now) l.words)) ≡ each_of arg_of (map (λ word. word.now) l.fn.words)
+
+abbrev pub decreases-loop-words : goal.decreases-loop-words
+decreases-loop-words l = length l.words

@@ -1,0 +1,20 @@
+//! Scripts of calls, read: each line of a text is one command over blocks, objects, variables and calls.
+#![tactic(auto)]
+
+mod commands;
+mod error;
+mod forms;
+mod read;
+mod script;
+mod spellings;
+mod texts;
+
+pub use error::ScriptError;
+pub use read::{MAX_SCRIPT, one_reading, read_script};
+pub use script::{
+    Act, ArgWord, EnterItem, Fill, Line, MemberRef, MemberWord, ReplyItem, Script, Target, Term,
+    ValueWord,
+};
+
+#[cfg(test)]
+mod tests;
