@@ -1,4 +1,5 @@
 pub mod Causes
+pub mod Digits
 pub mod Files
 pub mod MemoryObjects
 pub mod Written

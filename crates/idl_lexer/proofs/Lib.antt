@@ -1,0 +1,10 @@
+pub mod Basics
+pub mod ByteLaws
+pub mod PartLaws
+pub mod PairLaws
+pub mod KindLaws
+pub mod TokenLaws
+pub mod PieceLaws
+pub mod ChainLaws
+pub mod ReadLaws
+pub mod LexLaws

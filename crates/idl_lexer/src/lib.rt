@@ -1,0 +1,15 @@
+//! The tokens of an XPIDL text.
+//!
+//! A text is a chain of pieces: blanks, comments and tokens. `lex` gives its tokens, or the first place
+//! at which no piece begins.
+#![tactic(auto)]
+
+mod class;
+mod lexer;
+mod part;
+mod piece;
+mod spelling;
+mod token;
+
+pub use lexer::{MAX_SOURCE, lex};
+pub use token::{Kind, LexError, Token, Tokens};
