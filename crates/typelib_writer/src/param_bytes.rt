@@ -7,9 +7,21 @@ use crate::numbers::put_u16;
 use lib_model::{Elem, Param, XType};
 use xp_base::{Bytes, Memory};
 
+/// The last tag of a type that is no pointer.
 const LAST_PLAIN_VALUE: u8 = 12;
 
+/// The bit of a type's byte that says that it is a pointer.
 const POINTER: u8 = 0x80;
+
+const IFACE: u8 = 18;
+
+const IID_IS: u8 = 19;
+
+const ARRAY: u8 = 20;
+
+const SIZED_STRING: u8 = 21;
+
+const SIZED_WSTRING: u8 = 22;
 
 /// The byte of a type with this tag.
 fn byte_of_tag(tag: u8) -> u8
