@@ -7,16 +7,28 @@ use crate::numbers::put_u16;
 use lib_model::{Elem, Param, XType};
 use xp_base::{Bytes, Memory};
 
-const LAST_NUMBER_TAG: u8 = 12;
+/// The last tag of a type that is no pointer.
+const LAST_PLAIN_VALUE: u8 = 12;
 
+/// The bit of a type's byte that says that it is a pointer.
 const POINTER: u8 = 0x80;
+
+const IFACE: u8 = 18;
+
+const IID_IS: u8 = 19;
+
+const ARRAY: u8 = 20;
+
+const SIZED_STRING: u8 = 21;
+
+const SIZED_WSTRING: u8 = 22;
 
 /// The byte of a type with this tag.
 fn byte_of_tag(tag: u8) -> u8
     requires { tag < 128 }
     ensures { result ≡ tag_byte tag }
 {
-    if tag <= LAST_NUMBER_TAG {
+    if tag <= LAST_PLAIN_VALUE {
         tag
     } else {
         tag + POINTER
@@ -32,10 +44,10 @@ fn put_elem(out: &mut Bytes, elem: Elem) -> Result<(), Memory>
     match elem {
         Elem::Plain(tag) => out.append(&[byte_of_tag(tag)]),
         Elem::Iface(number) => {
-            out.append(&[byte_of_tag(18)])?;
+            out.append(&[byte_of_tag(IFACE)])?;
             put_u16(out, number)
         }
-        Elem::IidIs(param) => out.append(&[byte_of_tag(19), param]),
+        Elem::IidIs(param) => out.append(&[byte_of_tag(IID_IS), param]),
     }
 }
 
@@ -48,16 +60,16 @@ fn put_type(out: &mut Bytes, ty: XType) -> Result<(), Memory>
     match ty {
         XType::Plain(tag) => out.append(&[byte_of_tag(tag)]),
         XType::Iface(number) => {
-            out.append(&[byte_of_tag(18)])?;
+            out.append(&[byte_of_tag(IFACE)])?;
             put_u16(out, number)
         }
-        XType::IidIs(param) => out.append(&[byte_of_tag(19), param]),
+        XType::IidIs(param) => out.append(&[byte_of_tag(IID_IS), param]),
         XType::Array { size, len, elem } => {
-            out.append(&[byte_of_tag(20), size, len])?;
+            out.append(&[byte_of_tag(ARRAY), size, len])?;
             put_elem(out, elem)
         }
-        XType::SizedString { size, len } => out.append(&[byte_of_tag(21), size, len]),
-        XType::SizedWString { size, len } => out.append(&[byte_of_tag(22), size, len]),
+        XType::SizedString { size, len } => out.append(&[byte_of_tag(SIZED_STRING), size, len]),
+        XType::SizedWString { size, len } => out.append(&[byte_of_tag(SIZED_WSTRING), size, len]),
     }
 }
 
