@@ -1,14 +1,13 @@
 -- Which classes a byte can be of at once, and what the tests of a run say.
-use Rattle.std.proofs.Common.{◌≡◌, ◌≢◌, ◌≤◌, ◌<◌, ◌+◌, ℕ, zero, suc, Bool, true, false, not, cond, ◌&&◌, ◌||◌, ◌⊎◌, inl, inr, List, [], ◌∷◌, ◌++◌, length, Option, Some, None, refl, sym, ◌∙◌, ap, subst, arith, rules, append_assoc, append-nil, length-append, eq-eqb, codes}
+use Rattle.std.proofs.Common.{◌≡◌, ◌<◌, ℕ, Bool, true, false, not, List, [], ◌∷◌, ◌++◌, length, refl, subst, arith}
 use Rattle.std.proofs.lemmas.Bool.Decides.{Decides-eqb, nat_tests}
 use Rattle.std.proofs.lemmas.Slice.Eq.{bytes_eq-Decides}
-use Rattle.std.specs.Prelude.{◌==◌, nat_lt, nat_le}
+use Rattle.std.specs.Prelude.{◌==◌, nat_le}
 use Rattle.std.specs.Str.{bytes_eq}
 use Rattle.std.specs.List.{list_all, list_any}
-use Rattle.idl_lexer.specs.declared.class.Class.{Class}
-use Rattle.idl_lexer.specs.declared.class.Class.TheVariants.{Blank, NameStart, NameByte, Digit, Hexadecimal, Gap, Space, Quoted, Parenthesized, InLine, Single}
-use Rattle.idl_lexer.specs.Classes.{is_in, IsOver}
-use Rattle.idl_lexer.specs.Parts.{any, some, short, is_name, keys, is_key, is_word}
+use Rattle.idl_lexer.specs.declared.class.Class.TheVariants.{NameStart, NameByte, Digit, Hexadecimal, Gap}
+use Rattle.idl_lexer.specs.Classes.{is_in}
+use Rattle.idl_lexer.specs.Parts.{any, some, is_name, keys, is_key, is_word}
 use Rattle.idl_lexer.proofs.Basics.{both_true}
 
 -- P holds of each

@@ -1,9 +1,9 @@
 -- A text has one chain of pieces, and it reaches the end or a place at which no piece begins.
-use Rattle.std.proofs.Common.{◌≡◌, ◌≢◌, ◌≤◌, ◌<◌, ◌+◌, ℕ, zero, suc, Bool, true, false, not, cond, ◌⊎◌, inl, inr, List, [], ◌∷◌, ◌++◌, length, Option, Some, None, refl, sym, ◌∙◌, ap, subst, arith, rules, append_assoc, append-nil, length-append}
+use Rattle.std.proofs.Common.{◌≡◌, ◌≢◌, ◌≤◌, ◌<◌, ℕ, zero, suc, ◌⊎◌, inl, inr, List, [], ◌∷◌, ◌++◌, length, Option, Some, None, refl, sym, ◌∙◌, ap, subst, arith, append_assoc, append-nil, length-append}
 use Rattle.idl_lexer.specs.declared.token.Kind.{Kind}
 use Rattle.idl_lexer.specs.declared.token.Token.{Token}
 use Rattle.idl_lexer.specs.Pieces.{Piece, IsPiece, text_of, IsChain}
-use Rattle.idl_lexer.specs.Tokens.{tokens_behind, with_token, AreTokens, IsStuck, IsNoToken, StandInOrder, line_behind}
+use Rattle.idl_lexer.specs.Tokens.{tokens_behind, AreTokens, IsStuck, IsNoToken}
 use Rattle.idl_lexer.specs.Reading.{piece_at}
 use Rattle.idl_lexer.proofs.Basics.{same_length, pair, some_alike}
 use Rattle.idl_lexer.proofs.PieceLaws.{piece-sound, piece-again, piece-filled}

@@ -1,19 +1,18 @@
 -- What a reader of a kind gives is spelled so, and no spelling of the kind at its place is longer.
-use Rattle.std.proofs.Common.{◌≡◌, ◌≢◌, ◌≤◌, ◌<◌, ◌+◌, ℕ, zero, suc, Bool, true, false, not, cond, ◌&&◌, ◌||◌, ◌⊎◌, inl, inr, List, [], ◌∷◌, ◌++◌, length, Option, Some, None, refl, sym, ◌∙◌, ap, subst, arith, rules, append_assoc, append-nil, length-append, eq-eqb, codes}
-use Rattle.std.proofs.lemmas.Bool.Decides.{Decides-eqb, nat_tests}
-use Rattle.std.specs.Prelude.{◌==◌, option_and_then, unwrap_or}
-use Rattle.std.specs.Option.{option_map, option_or}
-use Rattle.std.specs.List.{list_all, list_any}
-use Rattle.idl_lexer.specs.declared.class.Class.{Class}
-use Rattle.idl_lexer.specs.declared.class.Class.TheVariants.{Blank, NameStart, NameByte, Digit, Hexadecimal, Gap, Space, Quoted, Parenthesized, InLine, Single}
-use Rattle.idl_lexer.specs.Classes.{is_in, IsOver}
-use Rattle.idl_lexer.specs.Parts.{Part, literal, counted, run, IsMadeOf, any, some, short, is_name, is_key, is_word}
-use Rattle.idl_lexer.specs.Spelling.{hexadecimal, decimal, iid, include, native, language, IsEnclosed, IsBlock, IsCode, is_mark}
+use Rattle.std.proofs.Common.{◌≡◌, ◌≤◌, ◌<◌, ℕ, Bool, true, false, cond, ◌&&◌, ◌||◌, ◌⊎◌, inl, inr, List, [], ◌∷◌, ◌++◌, length, Option, Some, None, refl, sym, ◌∙◌, ap, arith, append_assoc, append-nil, length-append, codes}
+use Rattle.std.proofs.lemmas.Bool.Decides.{nat_tests}
+use Rattle.std.specs.Prelude.{◌==◌, unwrap_or}
+use Rattle.std.specs.Option.{option_or}
+use Rattle.std.specs.List.{list_all}
+use Rattle.idl_lexer.specs.declared.class.Class.TheVariants.{NameByte, Digit, Hexadecimal, Gap, Single}
+use Rattle.idl_lexer.specs.Classes.{is_in}
+use Rattle.idl_lexer.specs.Parts.{IsMadeOf, is_name, is_word}
+use Rattle.idl_lexer.specs.Spelling.{hexadecimal, decimal, iid, include, native, language, IsBlock, IsCode, is_mark}
 use Rattle.idl_lexer.specs.Pieces.{line_comment}
-use Rattle.idl_lexer.specs.Reading.{front, behind, after_literal, after_counted, after_run, after, after_pair, after_block, without_language, after_code, after_number, after_mark}
-use Rattle.idl_lexer.proofs.Basics.{chosen, guarded, bound, mapped, either_of, both_true, consed}
-use Rattle.idl_lexer.proofs.ByteLaws.{listed_test, gap-unnamed, named-no_gap, hexadecimal-named, digit-named, some-more, any-more, some-first}
-use Rattle.idl_lexer.proofs.PartLaws.{front-all, front-behind, behind-over, parts-read, parts-longest, IsGreedy, EndsRun, GoesFar}
+use Rattle.idl_lexer.specs.Reading.{after, after_block, without_language, after_code, after_number, after_mark}
+use Rattle.idl_lexer.proofs.Basics.{chosen, guarded, mapped, either_of, both_true}
+use Rattle.idl_lexer.proofs.ByteLaws.{gap-unnamed, named-no_gap, hexadecimal-named, digit-named, some-more, any-more, some-first}
+use Rattle.idl_lexer.proofs.PartLaws.{parts-read, parts-longest, IsGreedy, GoesFar}
 use Rattle.idl_lexer.proofs.PairLaws.{enclosed-reads, enclosed-again}
 
 -- ---- each spelling ends its runs

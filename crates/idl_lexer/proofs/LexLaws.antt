@@ -1,6 +1,6 @@
 -- How far a text was read: a chain of pieces, the tokens among them, and what is left.
-use Rattle.std.proofs.Common.{◌≡◌, ◌≢◌, ◌≤◌, ◌<◌, ◌+◌, ◌-◌, ℕ, zero, suc, Bool, true, false, cond, ◌⊎◌, inl, inr, List, [], ◌∷◌, ◌++◌, length, take, drop, Option, Some, None, refl, sym, ◌∙◌, ap, subst, arith, append_assoc, append-nil, length-append, add_assoc, count_by}
-use Rattle.std.specs.Prelude.{◌==◌, Result, Err, MatchResult}
+use Rattle.std.proofs.Common.{◌≡◌, ◌≢◌, ◌≤◌, ◌<◌, ◌+◌, ◌-◌, ℕ, Bool, false, cond, List, [], ◌∷◌, ◌++◌, length, take, drop, Option, Some, None, refl, sym, ◌∙◌, ap, subst, arith, append_assoc, append-nil, length-append, add_assoc, count_by}
+use Rattle.std.specs.Prelude.{◌==◌, Result, Err}
 use Rattle.std.proofs.lemmas.List.{take_at, drop_at}
 use Rattle.std.proofs.lemmas.List.Sums.{sum_by-append, count_by-le-length}
 use Rattle.std.proofs.lemmas.List.Elements.{All-nil, All-cons}
@@ -8,7 +8,7 @@ use Rattle.std.specs.List.{All}
 use Rattle.idl_lexer.specs.declared.token.Kind.{Kind}
 use Rattle.idl_lexer.specs.declared.token.Token.{Token}
 use Rattle.idl_lexer.specs.Pieces.{Piece, IsPiece, text_of, IsChain}
-use Rattle.idl_lexer.specs.Tokens.{tokens_behind, with_token, AreTokens, IsStuck, IsNoToken, StandInOrder, line_behind, HasOneReading, IsGiven, IfAt, IsTokenOf}
+use Rattle.idl_lexer.specs.Tokens.{tokens_behind, with_token, AreTokens, IsNoToken, StandInOrder, line_behind, HasOneReading, IsGiven, IfAt, IsTokenOf}
 use Rattle.idl_lexer.specs.Spelling.{IsToken}
 use Rattle.idl_lexer.specs.declared.token.Tokens.{Tokens}
 use Rattle.idl_lexer.specs.declared.token.LexError.{LexError}

@@ -1,10 +1,10 @@
 -- What ends at the first pair of two bytes.
-use Rattle.std.proofs.Common.{◌≡◌, ◌≢◌, ◌≤◌, ◌<◌, ◌+◌, ℕ, zero, suc, Bool, true, false, cond, ◌&&◌, ◌⊎◌, inl, inr, List, [], ◌∷◌, ◌++◌, length, Option, Some, None, refl, sym, ◌∙◌, ap, subst, arith, append_assoc, append-nil, length-append, eq-eqb}
+use Rattle.std.proofs.Common.{◌≡◌, ℕ, Bool, true, false, ◌&&◌, ◌⊎◌, inl, inr, List, [], ◌∷◌, ◌++◌, Some, refl, sym, ◌∙◌, ap, append_assoc, eq-eqb}
 use Rattle.std.proofs.lemmas.Bool.Decides.{Decides-eqb}
 use Rattle.std.specs.Prelude.{option_and_then, ◌==◌}
 use Rattle.idl_lexer.specs.Spelling.{Holds, IsEnclosed}
 use Rattle.idl_lexer.specs.Reading.{after_literal, after_pair}
-use Rattle.idl_lexer.proofs.Basics.{chosen, guarded, bound, both_true, consed}
+use Rattle.idl_lexer.proofs.Basics.{chosen, bound, both_true, consed}
 use Rattle.idl_lexer.proofs.PartLaws.{literal-reads, literal-again}
 
 -- what holds the pair in its tail holds it

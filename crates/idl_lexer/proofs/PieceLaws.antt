@@ -1,20 +1,16 @@
 -- The reader of pieces gives the one piece at a place, and nothing where no piece begins.
-use Rattle.std.proofs.Common.{◌≡◌, ◌≢◌, ◌≤◌, ◌<◌, ◌+◌, ℕ, zero, suc, Bool, true, false, not, cond, ◌&&◌, ◌||◌, ◌⊎◌, inl, inr, List, [], ◌∷◌, ◌++◌, length, Option, Some, None, refl, sym, ◌∙◌, ap, subst, arith, rules, append_assoc, append-nil, length-append, eq-eqb, codes}
-use Rattle.std.proofs.lemmas.Bool.Decides.{Decides-eqb, nat_tests}
+use Rattle.std.proofs.Common.{◌≡◌, ◌<◌, ℕ, Bool, true, false, cond, ◌⊎◌, inl, inr, List, [], ◌∷◌, ◌++◌, length, Option, Some, None, refl, ◌∙◌, ap, subst, arith, append-nil, length-append, codes}
+use Rattle.std.proofs.lemmas.Bool.Decides.{Decides-eqb}
 use Rattle.std.specs.Prelude.{◌==◌, option_and_then}
-use Rattle.std.specs.Option.{option_map, option_or}
-use Rattle.std.specs.List.{list_all, list_any}
-use Rattle.idl_lexer.specs.declared.class.Class.{Class}
+use Rattle.std.specs.Option.{option_map}
 use Rattle.idl_lexer.specs.declared.class.Class.TheVariants.{Blank, InLine}
 use Rattle.idl_lexer.specs.declared.token.Kind.{Kind}
 use Rattle.idl_lexer.specs.Classes.{is_in, IsOver}
-use Rattle.idl_lexer.specs.Parts.{Part, literal, counted, run, IsMadeOf, any}
-use Rattle.idl_lexer.specs.Spelling.{IsEnclosed, Spells, IsToken}
-use Rattle.idl_lexer.specs.Pieces.{Piece, IsBlank, line_comment, IsComment, IsPiece}
-use Rattle.idl_lexer.specs.Reading.{front, behind, after_literal, after_run, after, after_pair, token_at, after_comment, piece_at}
-use Rattle.idl_lexer.proofs.Basics.{chosen, guarded, bound, mapped, either_of, both_true, consed, same_length, pair, some_alike}
-use Rattle.idl_lexer.proofs.ByteLaws.{Each, listed}
-use Rattle.idl_lexer.proofs.PartLaws.{front-all, behind-over, front-behind, front-whole, behind-whole, parts-read, literal-again, literal-reads, run-reads, run-again}
+use Rattle.idl_lexer.specs.Parts.{run, IsMadeOf, any}
+use Rattle.idl_lexer.specs.Pieces.{line_comment, IsComment, IsPiece}
+use Rattle.idl_lexer.specs.Reading.{behind, after_literal, after_run, after, after_pair, token_at, after_comment, piece_at}
+use Rattle.idl_lexer.proofs.Basics.{bound, mapped, either_of, pair, some_alike}
+use Rattle.idl_lexer.proofs.PartLaws.{behind-over, behind-whole, parts-read, run-reads, run-again}
 use Rattle.idl_lexer.proofs.PairLaws.{enclosed-reads, enclosed-again}
 use Rattle.idl_lexer.proofs.TokenLaws.{token-sound, token-again, no_token-at-blank, no_token-at-slash, no_token-at-end, spelled-filled}
 

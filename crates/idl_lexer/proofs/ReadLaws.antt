@@ -1,5 +1,5 @@
 -- What std's calls give, as the readers say it.
-use Rattle.std.proofs.Common.{◌≡◌, ◌≢◌, ◌≤◌, ◌<◌, ◌+◌, ◌-◌, ℕ, zero, suc, Bool, true, false, cond, List, [], ◌∷◌, ◌++◌, length, take, drop, Option, Some, None, refl, sym, ◌∙◌, ap, arith, one-add, Bor}
+use Rattle.std.proofs.Common.{◌≡◌, ◌≢◌, ◌≤◌, ◌<◌, ◌+◌, ℕ, zero, suc, Bool, true, false, cond, List, [], ◌∷◌, ◌++◌, length, take, drop, Option, Some, None, refl, sym, ap, arith, one-add, Bor}
 use Rattle.std.specs.Option.{option_copied, MatchOption}
 use Rattle.std.specs.List.{list_all, prefix_len}
 use Rattle.idl_lexer.specs.declared.class.Class.{Class}

@@ -1,19 +1,18 @@
 -- The reader of tokens gives the longest spelling at a place, and gives nothing where there is none.
-use Rattle.std.proofs.Common.{◌≡◌, ◌≢◌, ◌≤◌, ◌<◌, ◌+◌, ℕ, zero, suc, Bool, true, false, not, cond, ◌&&◌, ◌||◌, ◌⊎◌, inl, inr, List, [], ◌∷◌, ◌++◌, length, Option, Some, None, refl, sym, ◌∙◌, ap, subst, arith, rules, append_assoc, append-nil, length-append, eq-eqb, codes}
-use Rattle.std.proofs.lemmas.Bool.Decides.{Decides-eqb, nat_tests}
-use Rattle.std.specs.Prelude.{◌==◌, option_and_then, unwrap_or}
-use Rattle.std.specs.Option.{option_map, option_or}
-use Rattle.std.specs.List.{list_all, list_any}
-use Rattle.idl_lexer.specs.declared.class.Class.{Class}
+use Rattle.std.proofs.Common.{◌≡◌, ◌≤◌, ◌<◌, ℕ, Bool, true, false, not, cond, ◌&&◌, ◌||◌, ◌⊎◌, inl, inr, List, [], ◌∷◌, ◌++◌, length, Option, Some, None, refl, sym, ◌∙◌, ap, subst, arith, append-nil, length-append, codes}
+use Rattle.std.proofs.lemmas.Bool.Decides.{nat_tests}
+use Rattle.std.specs.Prelude.{◌==◌}
+use Rattle.std.specs.Option.{option_or}
+use Rattle.std.specs.List.{list_all}
 use Rattle.idl_lexer.specs.declared.class.Class.TheVariants.{Blank, NameStart, NameByte, Digit, Hexadecimal, Single}
 use Rattle.idl_lexer.specs.declared.token.Kind.{Kind}
 use Rattle.idl_lexer.specs.declared.token.Kind.TheVariants as kind
 use Rattle.idl_lexer.specs.Classes.{is_in, IsOver}
-use Rattle.idl_lexer.specs.Parts.{Part, literal, counted, run, IsMadeOf, is_name, is_key, is_word}
+use Rattle.idl_lexer.specs.Parts.{IsMadeOf, is_name, is_key, is_word}
 use Rattle.idl_lexer.specs.Spelling.{hexadecimal, decimal, iid, include, native, IsCode, is_mark, Spells, IsToken}
 use Rattle.idl_lexer.specs.Reading.{front, behind, after, after_code, after_number, after_mark, of_kind, name_at, lettered_at, numbered_at, token_at}
-use Rattle.idl_lexer.proofs.Basics.{chosen, guarded, bound, mapped, either_of, both_true, consed, same_length, pair, some_alike}
-use Rattle.idl_lexer.proofs.ByteLaws.{listed_test, digit-no_start, hexadecimal-digit, hexadecimal-named, key-name, word-tests, tests-word, name-start, some-first}
+use Rattle.idl_lexer.proofs.Basics.{chosen, guarded, either_of, both_true, same_length, pair, some_alike}
+use Rattle.idl_lexer.proofs.ByteLaws.{listed_test, digit-no_start, hexadecimal-digit, key-name, word-tests, tests-word, name-start, some-first}
 use Rattle.idl_lexer.proofs.PartLaws.{front-all, behind-over, front-behind, front-whole, behind-whole, parts-read, parts-longest, GoesFar}
 use Rattle.idl_lexer.proofs.KindLaws.{iid-greedy, include-greedy, native-greedy, iid-longer, native-longer, number-all, number-reads, number-far, code-reads, code-far, mark-reads, mark-far}
 

@@ -1,5 +1,5 @@
 -- What the lexer computes, as functions on lists. Each reader gives what is left behind what it read.
-use Rattle.std.specs.Prelude.{◌≡◌, ℕ, zero, suc, Bool, true, false, ◌&&◌, ◌||◌, ◌==◌, if◌then◌else◌, List, [], ◌∷◌, ◌++◌, length, drop, Option, Some, None, option_and_then, unwrap_or, codes}
+use Rattle.std.specs.Prelude.{ℕ, zero, suc, Bool, ◌&&◌, ◌||◌, ◌==◌, if◌then◌else◌, List, [], ◌∷◌, Option, Some, None, option_and_then, unwrap_or, codes}
 use Rattle.std.specs.Option.{option_map, option_or}
 use Rattle.idl_lexer.specs.declared.class.Class.{Class}
 use Rattle.idl_lexer.specs.declared.class.Class.TheVariants.{Blank, NameStart, NameByte, Digit, Single}

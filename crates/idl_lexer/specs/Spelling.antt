@@ -1,10 +1,10 @@
 -- How each kind of token is spelled.
 use Rattle.std.specs.Prelude.{◌≡◌, ◌≤◌, ℕ, Bool, false, ◌&&◌, ◌||◌, ◌==◌, ◌⊎◌, List, [], ◌∷◌, ◌++◌, length, IsTrue, codes}
-use Rattle.idl_lexer.specs.declared.class.Class.TheVariants.{NameByte, Digit, Hexadecimal, Gap, Space, Quoted, Parenthesized, InLine, Single}
+use Rattle.idl_lexer.specs.declared.class.Class.TheVariants.{NameByte, Digit, Hexadecimal, Gap, Space, Quoted, Parenthesized, Single}
 use Rattle.idl_lexer.specs.declared.token.Kind.{Kind}
 use Rattle.idl_lexer.specs.declared.token.Kind.TheVariants as kind
 use Rattle.idl_lexer.specs.Classes.{is_in, IsOver}
-use Rattle.idl_lexer.specs.Parts.{Part, literal, counted, run, IsMadeOf, any, some, short, is_name, is_key, is_word}
+use Rattle.idl_lexer.specs.Parts.{Part, literal, counted, run, IsMadeOf, any, some, short, is_key, is_word}
 
 unfoldable pub hexadecimal : List Part
 hexadecimal = literal (codes "0x") ∷ run Hexadecimal some ∷ []

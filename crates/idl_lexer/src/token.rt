@@ -29,6 +29,7 @@ pub enum Kind {
 /// A token, and where it stands in its source.
 #[derive(Clone, Copy, Debug, PartialEq, Eq)]
 pub struct Token {
+    /// What it is.
     pub kind: Kind,
     /// The place of its first byte, from 0.
     pub start: u32,
@@ -41,7 +42,9 @@ pub struct Token {
 /// A text and its tokens, in order.
 #[derive(Debug, Drop)]
 pub struct Tokens {
+    /// The text.
     pub source: Bytes,
+    /// Its tokens, each with its place in the text.
     pub list: List<Token>,
 }
 

@@ -1,4 +1,4 @@
-use Rattle.std.proofs.Common.{◌≡◌, ◌≤◌, ◌<◌, ◌∙◌, length, sym, arith}
+use Rattle.std.proofs.Common.{◌∙◌, sym, arith}
 use Rattle.idl_lexer.proofs.PieceLaws.{piece-shrinks}
 use Rattle.idl_lexer.proofs.LexLaws.{read-left, read-stuck, not_empty, token-turn, blank-turn, feeds, piece_text, token_from}
 use Rattle.idl_lexer.proofs.lexer.tokens_of.Goals as goal

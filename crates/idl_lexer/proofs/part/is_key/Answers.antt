@@ -1,4 +1,3 @@
-use Rattle.std.proofs.Common.{◌∙◌, refl}
 use Rattle.idl_lexer.specs.Parts.{is_key, keys}
 use Rattle.idl_lexer.proofs.part.is_key.Goals as goal
 
