@@ -1,10 +1,9 @@
 -- What a fetch tells of a whole file.
 use Rattle.std.proofs.Common.{◌≡◌, ℕ, ◌+◌, ◌<◌, ◌≤◌, List, length, min, take, Option, Some, None, Result, Ok, Err, IfOk, IfErr, inl, inr, subst, refl, sym, ap, ◌∙◌, arith}
 use Rattle.std.proofs.lemmas.List.{length-take, take_all}
-use Rattle.xp_base.specs.declared.sources.Fetched.TheVariants.{Found, Missing}
+use Rattle.xp_base.specs.declared.sources.Fetched.TheVariants.{Found}
 use Rattle.xp_base.specs.Files.{Files, fetched, file_in}
 use Rattle.xpcall_run.specs.declared.failures.Failure.{Failure}
-use Rattle.xpcall_run.specs.declared.failures.Failure.TheVariants.{OutOfMemory, TooLong}
 use Rattle.xpcall_run.specs.Meaning.{IsLimited, IsUnfetched}
 
 -- a file within the limit is found whole

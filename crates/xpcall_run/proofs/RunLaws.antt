@@ -1,9 +1,9 @@
 -- What follows from how a run ends.
-use Rattle.std.proofs.Common.{◌≡◌, ◌≢◌, ◌⊎◌, ℕ, ◌<◌, ◌≤◌, List, [], ◌∷◌, ◌++◌, length, take, Option, Some, None, inl, inr, refl, sym, ap, subst, ◌∙◌, arith}
+use Rattle.std.proofs.Common.{◌≡◌, ◌≢◌, ◌⊎◌, ℕ, ◌<◌, ◌≤◌, List, length, take, Option, Some, None, inl, inr, refl, sym, ap, subst, ◌∙◌, arith}
 use Rattle.std.proofs.Math.Seq.{take-length}
 use Rattle.xp_base.specs.Files.{Files}
 use Rattle.xp_base.specs.Written.{Gained, GainedNothing, GainedPrefix}
-use Rattle.idl_lexer.specs.Tokens.{HasOneReading, line_behind}
+use Rattle.idl_lexer.specs.Tokens.{line_behind}
 use Rattle.idl_lexer.proofs.LexLaws.{one_reading}
 use Rattle.lib_model.specs.Emit.{emit}
 use Rattle.xpcall_run.specs.declared.failures.Failure.{Failure}
@@ -13,7 +13,7 @@ use Rattle.xpcall_run.specs.FaultText.{failure_text, status_of}
 use Rattle.xpcall_run.specs.Headline.{Denies, Ends, Gives, HasBegun, HasWritten, IsCause, IsCutShort, IsFirst, IsKept, IsReported, IsStatus, ToldWritten}
 use Rattle.xpcall_run.specs.Meaning.{Input, no_command, no_file, long_file, file, Refuses, Writes, command_input, input_of}
 use Rattle.xpcall_run.specs.Reporting.{Reports}
-use Rattle.xpcall_run.specs.ThinFiles.{IsThinFile, library_of}
+use Rattle.xpcall_run.specs.ThinFiles.{library_of}
 use Rattle.xpcall_run.proofs.ThinOnce.{thin_once}
 
 -- ---- an input comes to one thing

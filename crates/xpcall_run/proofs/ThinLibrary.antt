@@ -1,15 +1,13 @@
 -- The library of a thin file is thin.
-use Rattle.std.proofs.Common.{◌≡◌, ℕ, ◌<◌, ◌≤◌, Bool, true, false, ltb, leb, List, [], ◌∷◌, length, get_or, map, Some, refl, sym, ap, ◌∙◌, arith}
-use Rattle.std.specs.Prelude.{◌&&◌, IsTrue, All}
-use Rattle.std.specs.List.{list_all}
+use Rattle.std.proofs.Common.{◌≡◌, ℕ, Bool, true, false, ltb, leb, List, length, get_or, refl}
+use Rattle.std.specs.Prelude.{◌&&◌, IsTrue}
 use Rattle.std.proofs.lemmas.Bool.{leb-true, ltb-true}
 use Rattle.std.proofs.lemmas.List.{length-map}
 use Rattle.std.proofs.lemmas.List.Sums.{AllPass-from_list_all}
 use Rattle.std.proofs.lemmas.List.Elements.{All-map}
-use Rattle.lib_model.specs.Emit.{emit}
 use Rattle.lib_model.specs.Thin.{IsThin, IsThinParam}
 use Rattle.lib_model.specs.Valid.{IsName}
-use Rattle.lib_model.proofs.ThinFacts.{ThinMethodParts, ThinBodyParts, ThinIfaceParts, thin_from_parts, thin_short}
+use Rattle.lib_model.proofs.ThinFacts.{ThinMethodParts, thin_from_parts}
 use Rattle.xpcall_run.specs.declared.thin_interface.ThinInterface.{ThinInterface}
 use Rattle.xpcall_run.specs.declared.thin_interface.ThinMethod.{ThinMethod}
 use Rattle.xpcall_run.specs.Thin.{are_distinct, are_thin_methods, has_no_zero, is_name, is_thin, is_thin_method}

@@ -1,9 +1,9 @@
 -- What the work of a run comes to.
-use Rattle.std.proofs.Common.{◌≡◌, ◌⊎◌, ℕ, ◌≤◌, List, [], ◌++◌, length, take, Option, Some, None, Result, Ok, Err, inl, inr, refl, sym, ap, subst, ◌∙◌, arith}
+use Rattle.std.proofs.Common.{◌≡◌, ℕ, List, Option, Some, Err, inl, inr, refl, sym, ap, subst, ◌∙◌}
 use Rattle.std.proofs.lemmas.List.{append-nil}
 use Rattle.xp_base.specs.Files.{Files}
 use Rattle.xp_base.specs.Causes.{Rose, SinkCause}
-use Rattle.xp_base.specs.Written.{Gained, GainedNothing, GainedPrefix}
+use Rattle.xp_base.specs.Written.{GainedNothing, GainedPrefix}
 use Rattle.xp_base.specs.declared.sinks.SinkError.{SinkError}
 use Rattle.xp_base.specs.declared.sinks.SinkError.TheVariants as sink
 use Rattle.xpcall_run.specs.declared.commands.Command.{Command}
@@ -12,7 +12,7 @@ use Rattle.xpcall_run.specs.declared.failures.Failure.{Failure}
 use Rattle.xpcall_run.specs.declared.failures.Failure.TheVariants.{Usage, CannotRead, CannotWrite, OutOfMemory, NoFile, TooLong, Token as NoToken, Form}
 use Rattle.xpcall_run.specs.Commands.{command_of, file_of}
 use Rattle.xpcall_run.specs.FaultText.{output_failure}
-use Rattle.xpcall_run.specs.Headline.{HasBegun, HasWritten, IsCause, IsFirst, IsKept, ToldRefused, ToldWritten}
+use Rattle.xpcall_run.specs.Headline.{IsFirst, ToldRefused}
 use Rattle.xpcall_run.specs.Meaning.{Input, FileRefuses, FileWrites, IsUncompiled, Refuses, Writes, command_input, input_of}
 
 -- nothing was gained where nothing was put

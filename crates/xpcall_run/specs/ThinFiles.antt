@@ -1,12 +1,11 @@
 -- Which bytes are a thin file, and the library of one.
-use Rattle.std.specs.Prelude.{◌≡◌, ℕ, List, [], ◌∷◌, map, Some, None}
+use Rattle.std.specs.Prelude.{ℕ, List, [], ◌∷◌, map, Some, None}
 use Rattle.idl_lexer.specs.declared.token.Kind.{Kind}
 use Rattle.idl_lexer.specs.declared.token.Kind.TheVariants as kind
 use Rattle.idl_lexer.specs.declared.token.Token.{Token}
 use Rattle.idl_lexer.specs.Tokens.{AreTokens, spelling_of}
 use Rattle.lib_model.specs.declared.contents.Library.{Library}
 use Rattle.lib_model.specs.declared.contents.Iface.{Iface}
-use Rattle.lib_model.specs.declared.contents.Body.{Body}
 use Rattle.lib_model.specs.declared.contents.Method.{Method}
 use Rattle.lib_model.specs.declared.param_types.Param.{Param}
 use Rattle.lib_model.specs.declared.param_types.XType.TheVariants as types

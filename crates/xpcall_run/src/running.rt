@@ -48,8 +48,8 @@ fn obey<S: Source, O: Sink>(
         → OnOk result (HasWritten words (S.files files.old) (O.written out.old) (O.written out.new)) }
     ensures err { (words : List (List ℕ)) → command_of words ≡ Some command.now
         → IfErr result (IsFirst words (S.files files.old)
-            (Rose (S.faults files.old) (S.faults files.new)) (Rose (O.faults out.old) (O.faults out.new))
-            (O.written out.old) (O.written out.new)) }
+        (Rose (S.faults files.old) (S.faults files.new)) (Rose (O.faults out.old) (O.faults out.new))
+        (O.written out.old) (O.written out.new)) }
     ensures same_files { S.files files.new ≡ S.files files.old }
 {
     let text = compile(alloc, command.file_name(), files)?;

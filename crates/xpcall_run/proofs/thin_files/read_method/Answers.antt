@@ -1,4 +1,4 @@
-use Rattle.std.proofs.Common.{◌≡◌, ap, sym, ◌∙◌, refl, Some}
+use Rattle.std.proofs.Common.{ap, ◌∙◌, refl, Some}
 use Rattle.xpcall_run.proofs.SignLaws.{method_read, no_method_end}
 use Rattle.xpcall_run.proofs.thin_files.read_method.Goals as goal
 

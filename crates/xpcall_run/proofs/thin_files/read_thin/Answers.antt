@@ -1,7 +1,7 @@
 use Rattle.std.proofs.Common.{◌≡◌, true, ap, sym, ◌∙◌, Some}
 use Rattle.uuid.specs.Text.{parsed}
 use Rattle.xpcall_run.specs.Thin.{is_thin}
-use Rattle.xpcall_run.proofs.SignLaws.{thin_said, no_thin_uuid, no_thin_name, thin_front, thin_name, thin_methods, thin_whole}
+use Rattle.xpcall_run.proofs.SignLaws.{thin_said, no_thin_uuid, no_thin_name, thin_front, thin_methods, thin_whole}
 use Rattle.xpcall_run.proofs.thin_files.read_thin.Goals as goal
 
 pub returns-in_default-clause-only : goal.returns-in_default-clause-only
