@@ -27,6 +27,7 @@ pub enum Class {
 }
 
 impl Class {
+    /// Whether the byte is of this class.
     #[tactic(auto, unfolding(crate::specs::Classes::is_in))]
     pub fn holds(self, byte: u8) -> bool
         ensures { result ≡ is_in self byte }
