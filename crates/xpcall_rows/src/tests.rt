@@ -36,11 +36,11 @@ fn failing(alloc: Global, call: u64) -> Result<List<u64>, Memory> {
     Ok(fails)
 }
 
-/// The status of `compile x.idl` on a file with this text, and what is on the output and on the error output.
-fn compile(alloc: Global, text: &[u8]) -> Result<(u8, CalmSink, CalmSink), Fail> {
-    let words = words(alloc, &["compile", "x.idl"])?;
+/// The status of `compile` on a file of this name and text, and what is on the output and on the error output.
+fn compile(alloc: Global, name: &str, text: &[u8]) -> Result<(u8, CalmSink, CalmSink), Fail> {
+    let words = words(alloc, &["compile", name])?;
     let mut files = CalmSource::new(alloc);
-    files.add(b"x.idl", text)?;
+    files.add(name.as_bytes(), text)?;
     let mut out = CalmSink::new(alloc);
     let mut err = CalmSink::new(alloc);
     let status = run(alloc, words.as_slice(), &mut files, &mut out, &mut err);
@@ -49,7 +49,7 @@ fn compile(alloc: Global, text: &[u8]) -> Result<(u8, CalmSink, CalmSink), Fail>
 
 #[test]
 fn a_thin_file_compiles(rt: HostRuntime) -> Result<(), Fail> {
-    let (status, out, err) = compile(rt.alloc(), THIN.as_bytes())?;
+    let (status, out, err) = compile(rt.alloc(), "a.idl", THIN.as_bytes())?;
     assert_eq!(rt; status, 0);
     assert_eq!(rt; out.written(), TYPELIB.as_slice());
     assert_eq!(rt; err.written(), b"".as_slice());
@@ -58,19 +58,19 @@ fn a_thin_file_compiles(rt: HostRuntime) -> Result<(), Fail> {
 
 #[test]
 fn files_are_refused(rt: HostRuntime) -> Result<(), Fail> {
-    for (text, want) in [
-        ("interface nsIA { };", "x.idl: form\n"),
-        ("interface ?", "x.idl:1: token\n"),
-        ("/* \n */\n ?", "x.idl:3: token\n"),
-        ("", "x.idl: form\n"),
+    for (name, text, want) in [
+        ("a.idl", "interface nsIA { };", "a.idl: form\n"),
+        ("x.idl", "interface ?", "x.idl:1: token\n"),
+        ("x.idl", "/* \n */\n ?", "x.idl:3: token\n"),
+        ("a.idl", "", "a.idl: form\n"),
     ] {
-        let (status, out, err) = compile(rt.alloc(), text.as_bytes())?;
+        let (status, out, err) = compile(rt.alloc(), name, text.as_bytes())?;
         assert_eq!(rt; status, 10, "at {text}");
         assert_eq!(rt; out.written(), b"".as_slice());
         assert_eq!(rt; err.written(), want.as_bytes());
     }
     let long = vec![in rt.alloc(); b' '; 1_048_577]?;
-    let (status, out, err) = compile(rt.alloc(), long.as_slice())?;
+    let (status, out, err) = compile(rt.alloc(), "x.idl", long.as_slice())?;
     assert_eq!(rt; status, 7);
     assert_eq!(rt; out.written(), b"".as_slice());
     assert_eq!(rt; err.written(), b"too long x.idl\n".as_slice());
@@ -150,7 +150,7 @@ fn wide(alloc: Global, methods: usize, params: usize) -> Result<String, AllocErr
 fn methods_and_parameters_have_limits(rt: HostRuntime) -> Result<(), Fail> {
     for (methods, params, status) in [(250, 0, 0), (251, 0, 10), (1, 255, 0), (1, 256, 10)] {
         let text = wide(rt.alloc(), methods, params)?;
-        let (got, _, _) = compile(rt.alloc(), text.as_bytes())?;
+        let (got, _, _) = compile(rt.alloc(), "a.idl", text.as_bytes())?;
         assert_eq!(rt; got, status, "at {methods} methods of {params} parameters");
     }
     Ok(())
