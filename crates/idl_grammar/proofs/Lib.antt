@@ -1,0 +1,16 @@
+pub mod Spelled
+pub mod Starts
+pub mod Symbols
+pub mod Sets
+pub mod Begin
+pub mod Sound
+pub mod Complete
+pub mod Reach
+pub mod Loops
+pub mod Chains
+pub mod Depths
+pub mod Predictive
+pub mod Levels
+pub mod Answered
+pub mod Parsed
+pub mod FewTokens
