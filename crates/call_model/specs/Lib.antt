@@ -1,5 +1,6 @@
 pub mod Laws
 pub mod Placement
 pub mod Prototype
+pub mod Tables
 pub mod Types
 pub mod Values

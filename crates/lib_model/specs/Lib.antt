@@ -1,3 +1,5 @@
+pub mod Denotes
 pub mod Emit
+pub mod Table
 pub mod Thin
 pub mod Valid
