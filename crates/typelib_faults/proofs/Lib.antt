@@ -1,0 +1,11 @@
+pub mod ChainLaws
+pub mod ConstantLaws
+pub mod EntryLaws
+pub mod FaultRows
+pub mod HeaderLaws
+pub mod IfaceLaws
+pub mod MemberLaws
+pub mod NameLaws
+pub mod TypeLaws
+pub mod TypelibLaws
+pub mod WalkFacts
