@@ -1,0 +1,14 @@
+//! The words and lines of a transcript: what is written of a call, a frame, a value, a refusal.
+#![tactic(auto)]
+
+mod frames;
+mod lines;
+mod refusals;
+#[cfg(test)]
+mod tests;
+mod values;
+
+pub use frames::frame_lines;
+pub use lines::{at_line, echo_line, got_line, refused_line, result_line, slot_line};
+pub use refusals::Refusal;
+pub use values::value_word;

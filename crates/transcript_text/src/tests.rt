@@ -1,0 +1,72 @@
+use crate::{
+    Refusal, at_line, echo_line, frame_lines, got_line, refused_line, result_line, slot_line,
+    value_word,
+};
+use call_model::{CType, Conv};
+use object_memory::{Machine, Width};
+use std::test::Fail;
+use xp_base::Bytes;
+
+#[test]
+fn values_are_numbers_of_their_types(rt: HostRuntime) -> Result<(), Fail> {
+    for (ty, pattern, word) in [
+        (CType::I32, u64::MAX, "-1"),
+        (CType::I8, 0x7f, "127"),
+        (CType::U64, u64::MAX, "18446744073709551615"),
+        (CType::Bool, 1, "1"),
+        (CType::Ptr, 0x107d0, "0x107d0"),
+        (CType::F32, 0, "0x0"),
+    ] {
+        assert_eq!(rt;
+            value_word(rt.alloc(), ty, pattern)?.as_slice(),
+            word.as_bytes()
+        );
+    }
+    Ok(())
+}
+
+#[test]
+fn lines_are_worded(rt: HostRuntime) -> Result<(), Fail> {
+    let alloc = rt.alloc();
+    let words = [Bytes::copy(alloc, b"-1")?, Bytes::copy(alloc, b"0x0")?];
+    for (line, text) in [
+        (slot_line(alloc, 3)?, "slot 3 entry 1030\n"),
+        (got_line(alloc, &[])?, "got -\n"),
+        (got_line(alloc, &words)?, "got -1 0x0\n"),
+        (result_line(alloc, 0x80004001)?, "result 80004001\n"),
+        (result_line(alloc, 0)?, "result 00000000\n"),
+        (refused_line(alloc, Refusal::Range(0))?, "refused range 0\n"),
+        (refused_line(alloc, Refusal::NoName)?, "refused no name\n"),
+        (at_line(alloc, 0x107d0)?, "at 107d0\n"),
+        (echo_line(alloc, b"cells 1")?, "> cells 1\n"),
+    ] {
+        assert_eq!(rt; line.as_slice(), text.as_bytes());
+    }
+    Ok(())
+}
+
+#[test]
+fn a_frame_has_three_lines(rt: HostRuntime) -> Result<(), Fail> {
+    let mut machine = Machine::new(rt.alloc(), Conv::SysV64)?;
+    let frame = machine.frame_mut();
+    frame.clear(16);
+    frame.set_gpr(0, 0x107d0);
+    frame.set_gpr(1, u64::MAX);
+    frame.set_stack(0, Width::W8, 6);
+    frame.set_stack(8, Width::W8, 7);
+    assert_eq!(rt;
+        frame_lines(rt.alloc(), Conv::SysV64, frame)?.as_slice(),
+        b"gpr 107d0 ffffffffffffffff 0 0 0 0\nfpr 0 0 0 0 0 0 0 0\nstack 06000000000000000700000000000000\n".as_slice()
+    );
+    Ok(())
+}
+
+#[test]
+fn an_empty_frame_has_dashes(rt: HostRuntime) -> Result<(), Fail> {
+    let machine = Machine::new(rt.alloc(), Conv::I386)?;
+    assert_eq!(rt;
+        frame_lines(rt.alloc(), Conv::I386, machine.frame())?.as_slice(),
+        b"gpr -\nfpr -\nstack -\n".as_slice()
+    );
+    Ok(())
+}
