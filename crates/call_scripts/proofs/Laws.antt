@@ -1,21 +1,17 @@
 -- The lines of a script: what is read is spelled so, and what is spelled so is read.
-use Rattle.std.proofs.Common.{◌≡◌, ℕ, ◌+◌, Bool, true, false, cond, get_or, List, [], ◌∷◌, ◌++◌, Option, Some, None, Result, Ok, Err, refl, sym, ap, subst, ◌∙◌, inl, inr}
+use Rattle.std.proofs.Common.{◌≡◌, ℕ, ◌+◌, Bool, true, false, cond, get_or, List, [], ◌∷◌, ◌++◌, Option, Some, None, refl, sym, ap, subst, ◌∙◌, inl, inr}
 use Rattle.std.specs.Prelude.{codes}
 use Rattle.std.specs.Option.{option_map_or}
 use Rattle.std.specs.Str.{bytes_eq}
-use Rattle.std.specs.Str.Lines.{lines}
 use Rattle.std.proofs.lemmas.Bool.{false≢true, eqb-true, eq-eqb}
 use Rattle.std.proofs.lemmas.Option.{none-some, same_Some}
-use Rattle.call_scripts.specs.declared.error.ScriptError.{ScriptError}
-use Rattle.call_scripts.specs.declared.error.ScriptError.TheVariants as errors
 use Rattle.call_scripts.specs.declared.script.Act.{Act}
 use Rattle.call_scripts.specs.declared.script.Act.TheVariants.{Block, Object, Reply, Call, Enter, ShowBlock, ShowValue, Poke, Context}
 use Rattle.call_scripts.specs.declared.script.Fill.{Fill}
 use Rattle.call_scripts.specs.declared.script.Fill.TheVariants.{Given, Zeros, Iid}
 use Rattle.call_scripts.specs.declared.script.Line.{Line}
-use Rattle.call_scripts.specs.declared.script.Script.{Script}
-use Rattle.call_scripts.specs.Lines.{Each, IsAct, IsName, IsNothing, IsRead, AreRead, IsFirstUnread, IsScript, Blames, IsItem, IsArg, IsFrameItem}
-use Rattle.call_scripts.specs.Reading.{◌>>=◌, act_of, add_line, after, arg_of, block_of, bytes_of, call_of, context_of, digits_of, each_of, enter_of, fill_kind_of, frame_item_of, GivesLines, iid_of, is_comment, item_of, line_of, member_of, name_of, object_of, poke_of, reply_of, script_of, show_of, target_of, value_of, words_line_of}
+use Rattle.call_scripts.specs.Lines.{Each, IsAct, IsName, IsNothing, IsRead, AreRead, HasReading, IsFirstUnread, ReadsUpTo, IsItem, IsArg, IsFrameItem}
+use Rattle.call_scripts.specs.Reading.{◌>>=◌, Reading, act_of, add_line, after, arg_of, block_of, bytes_of, call_of, context_of, digits_of, each_of, enter_of, fill_kind_of, frame_item_of, front_of, iid_of, is_comment, item_of, line_of, member_of, name_of, object_of, poke_of, reply_of, show_of, target_of, value_of, words_line_of}
 use Rattle.call_scripts.specs.Spellings.{Word}
 use Rattle.call_scripts.specs.Texts.{is_plain, joined, words}
 use Rattle.call_scripts.proofs.Atoms.{after_read, after_spelled, bytes_read, bytes_spelled, digits_spelled, iid_read, iid_spelled, name_read, name_spelled}
@@ -265,58 +261,57 @@ one_line number text a b h k = same_Some a b (sym (line_spelled number text a h)
 
 -- ---- texts
 
-same_ok : {A E : Type 0} (x y : A) → ◌≡◌ {A = Result A E} (Ok x) (Ok y) → x ≡ y
-same_ok x y h = cc
+fronts_step : (number : ℕ) (text : Word) (texts : List Word) (l : Option (Option Line)) (more : Reading)
+    → line_of number text ≡ l → ReadsUpTo (number + 1) texts more.0 more.1 → ReadsUpTo number (text ∷ texts) (add_line number l more).0 (add_line number l more).1
+fronts_step number text texts None more is later =
+    inr (inr ((λ reading. none-some reading.0 (sym is ∙ line_spelled number text reading.0 reading.1)), refl, refl))
+fronts_step number text texts (Some None) more is later = inl (line_read number text None is, later)
+fronts_step number text texts (Some (Some line)) more is later = inr (inl (line, more.0, refl, line_read number text (Some line) is, later))
 
-same_err : {A E : Type 0} (x y : E) → ◌≡◌ {A = Result A E} (Err x) (Err y) → x ≡ y
-same_err x y h = cc
+fronts_read : (number : ℕ) (texts : List Word) → ReadsUpTo number texts (front_of number texts).0 (front_of number texts).1
+fronts_read number [] = (refl, refl)
+fronts_read number (text ∷ texts) = fronts_step number text texts (line_of number text) (front_of (number + 1) texts) refl (fronts_read (number + 1) texts)
 
-ok_err : {A E : Type 0} (x : A) (e : E) → ◌≡◌ {A = Result A E} (Ok x) (Err e) → ⊥
-ok_err x e h = cc
+-- what is read is read up to the first line that has no reading
+pub front_read : (number : ℕ) (texts : List Word) (all : List Line) (fault : Option ℕ) → front_of number texts ≡ (all, fault) → ReadsUpTo number texts all fault
+front_read number texts all fault is = subst (λ (r : Reading). ReadsUpTo number texts r.0 r.1) is (fronts_read number texts)
 
-added : (number : ℕ) (text : Word) (texts : List Word) (l : Option (Option Line)) (rest : Result (List Line) ℕ) (all : List Line)
-    → line_of number text ≡ l → ((more : List Line) → rest ≡ Ok more → AreRead (number + 1) texts more) → add_line number l rest ≡ Ok all → AreRead number (text ∷ texts) all
-added number text texts None rest all is later h = absurd (ok_err all number (sym h))
-added number text texts (Some None) rest all is later h = inl (line_read number text None is, later all h)
-added number text texts (Some (Some line)) (Err e) all is later h = absurd (ok_err all e (sym h))
-added number text texts (Some (Some line)) (Ok more) all is later h =
-    inr (line, more, sym (same_ok (line ∷ more) all h), line_read number text (Some line) is, later more refl)
+unread : (number : ℕ) (text : Word) → (HasReading number text → ⊥) → line_of number text ≡ None
+unread number text none = by_line (line_of number text) refl
+  where
+    by_line : (l : Option (Option Line)) → line_of number text ≡ l → l ≡ None
+    by_line None is = refl
+    by_line (Some line) is = absurd (none (line, line_read number text line is))
 
-pub texts_read : (number : ℕ) (texts : List Word) (all : List Line) → script_of number texts ≡ Ok all → AreRead number texts all
-texts_read number [] all h = sym (same_ok [] all h)
-texts_read number (text ∷ texts) all h =
-    added number text texts (line_of number text) (script_of (number + 1) texts) all refl (λ more e. texts_read (number + 1) texts more e) h
+front_spelled : (number : ℕ) (texts : List Word) (all : List Line) (fault : Option ℕ) → ReadsUpTo number texts all fault → front_of number texts ≡ (all, fault)
+front_spelled number [] all fault h = rw (h.0, h.1) refl
+front_spelled number (text ∷ texts) all fault (inl h) = rw (line_spelled number text None h.0) (front_spelled (number + 1) texts all fault h.1)
+front_spelled number (text ∷ texts) all fault (inr (inl h)) =
+    rw (line_spelled number text (Some h.0) h.3, front_spelled (number + 1) texts h.1 fault h.4, h.2) refl
+front_spelled number (text ∷ texts) all fault (inr (inr h)) = rw (unread number text h.0, h.1, h.2) refl
 
-pub texts_spelled : (number : ℕ) (texts : List Word) (all : List Line) → AreRead number texts all → script_of number texts ≡ Ok all
-texts_spelled number [] all h = ap Ok (sym h)
-texts_spelled number (text ∷ texts) all (inl h) = rw (line_spelled number text None h.0, texts_spelled (number + 1) texts all h.1) refl
-texts_spelled number (text ∷ texts) all (inr h) =
-    rw (line_spelled number text (Some h.0) h.3, texts_spelled (number + 1) texts h.1 h.4) (ap Ok (sym h.2))
+-- where no line is named, the lines are a script
+pub front_whole : (number : ℕ) (texts : List Word) (all : List Line) → ReadsUpTo number texts all None → AreRead number texts all
+front_whole number [] all h = h.0
+front_whole number (text ∷ texts) all (inl h) = inl (h.0, front_whole (number + 1) texts all h.1)
+front_whole number (text ∷ texts) all (inr (inl h)) = inr (h.0, h.1, h.2, h.3, front_whole (number + 1) texts h.1 h.4)
+front_whole number (text ∷ texts) all (inr (inr h)) = absurd (none-some number h.2)
 
-stopped : (number : ℕ) (text : Word) (texts : List Word) (l : Option (Option Line)) (rest : Result (List Line) ℕ) (line : ℕ)
-    → line_of number text ≡ l → (rest ≡ Err line → IsFirstUnread (number + 1) texts line) → add_line number l rest ≡ Err line → IsFirstUnread number (text ∷ texts) line
-stopped number text texts None rest line is later h =
-    inl (sym (same_err number line h), λ reading. none-some reading.0 (sym is ∙ line_spelled number text reading.0 reading.1))
-stopped number text texts (Some None) rest line is later h = inr ((None, line_read number text None is), later h)
-stopped number text texts (Some (Some l)) (Err e) line is later h = inr ((Some l, line_read number text (Some l) is), later h)
-stopped number text texts (Some (Some l)) (Ok more) line is later h = absurd (ok_err (l ∷ more) line h)
+-- a script is read to its end
+whole_front : (number : ℕ) (texts : List Word) (all : List Line) → AreRead number texts all → ReadsUpTo number texts all None
+whole_front number [] all h = (h, refl)
+whole_front number (text ∷ texts) all (inl h) = inl (h.0, whole_front (number + 1) texts all h.1)
+whole_front number (text ∷ texts) all (inr h) = inr (inl (h.0, h.1, h.2, h.3, whole_front (number + 1) texts h.1 h.4))
 
-pub texts_unread : (number : ℕ) (texts : List Word) (line : ℕ) → script_of number texts ≡ Err line → IsFirstUnread number texts line
-texts_unread number [] line h = absurd (ok_err [] line h)
-texts_unread number (text ∷ texts) line h =
-    stopped number text texts (line_of number text) (script_of (number + 1) texts) line refl (λ e. texts_unread (number + 1) texts line e) h
+-- and nothing else is read where there is a script
+pub front_only : (number : ℕ) (texts : List Word) (script all : List Line) (fault : Option ℕ) → AreRead number texts script → ReadsUpTo number texts all fault → (all ≡ script) × (fault ≡ None)
+front_only number texts script all fault whole h =
+    let same : ◌≡◌ {A = Reading} (all, fault) (script, None) = sym (front_spelled number texts all fault h) ∙ front_spelled number texts script None (whole_front number texts script whole) in
+    (ap (λ (r : Reading). r.0) same, ap (λ (r : Reading). r.1) same)
 
--- ---- what a reader of lines says, in the words of its callers
-
-pub lines_blamed : (bytes : Word) (e : ScriptError) → GivesLines (Err e) (script_of 1 (lines bytes)) → Blames bytes e
-lines_blamed bytes (errors.Fault line) h = texts_unread 1 (lines bytes) line h
-lines_blamed bytes errors.Memory h = tt
-
--- a script that the bytes spell is what is read
-pub lines_only : (bytes : Word) (script : Script) (all : List Line) → GivesLines (Ok all) (script_of 1 (lines bytes)) → IsScript bytes script → all ≡ script.lines
-lines_only bytes script all h is = same_ok all script.lines (sym h ∙ texts_spelled 1 (lines bytes) script.lines is)
-
--- and where one is spelled no line is blamed
-pub lines_not_blamed : (bytes : Word) (script : Script) (e : ScriptError) → GivesLines (Err e) (script_of 1 (lines bytes)) → IsScript bytes script → e ≡ errors.Memory
-lines_not_blamed bytes script (errors.Fault line) h is = absurd (ok_err script.lines line (sym (texts_spelled 1 (lines bytes) script.lines is) ∙ h))
-lines_not_blamed bytes script errors.Memory h is = refl
+-- the line that is named is the first that has no reading
+pub front_unread : (number : ℕ) (texts : List Word) (all : List Line) (line : ℕ) → ReadsUpTo number texts all (Some line) → IsFirstUnread number texts line
+front_unread number [] all line h = absurd (none-some line (sym h.1))
+front_unread number (text ∷ texts) all line (inl h) = inr ((None, h.0), front_unread (number + 1) texts all line h.1)
+front_unread number (text ∷ texts) all line (inr (inl h)) = inr ((Some h.0, h.3), front_unread (number + 1) texts h.1 line h.4)
+front_unread number (text ∷ texts) all line (inr (inr h)) = inl (same_Some line number h.2, h.0)

@@ -152,3 +152,12 @@ IsFirstUnread number (text ∷ texts) line =
 abbrev pub Blames : List ℕ → ScriptError → Type 0
 Blames bytes (errors.Fault line) = IsFirstUnread 1 (lines bytes) line
 Blames bytes errors.Memory = Unit {0}
+
+-- the lines of a text up to the first that has no reading are the lines of the script, and that line, where there is one,
+-- is named
+abbrev pub ReadsUpTo : ℕ → List Word → List Line → Option ℕ → Type 0
+ReadsUpTo number [] all fault = (all ≡ []) × (fault ≡ None)
+ReadsUpTo number (text ∷ texts) all fault =
+    (IsRead number text None × ReadsUpTo (number + 1) texts all fault)
+    ⊎ (((line : Line) × (more : List Line) × (all ≡ line ∷ more) × IsRead number text (Some line) × ReadsUpTo (number + 1) texts more fault)
+    ⊎ ((HasReading number text → ⊥) × (all ≡ []) × (fault ≡ Some number)))

@@ -8,8 +8,6 @@ use Rattle.std.specs.Str.{bytes_eq}
 use Rattle.std.specs.Str.Parse.{digits_value, starts_with_minus}
 use Rattle.hex.specs.Hex.{decode_of}
 use Rattle.uuid.specs.Text.{parsed_hyphenated}
-use Rattle.call_scripts.specs.declared.error.ScriptError.{ScriptError}
-use Rattle.call_scripts.specs.declared.error.ScriptError.TheVariants as errors
 use Rattle.call_scripts.specs.declared.error.Unread.{Unread}
 use Rattle.call_scripts.specs.declared.error.Unread.TheVariants.{NoReading, NoMemory}
 use Rattle.call_scripts.specs.declared.script.Act.{Act}
@@ -216,30 +214,21 @@ words_line_of number (w ∷ ws) =
 unfoldable pub line_of : ℕ → Word → Option (Option Line)
 line_of number text = if is_plain text then words_line_of number (words text) else None
 
--- a line before those that follow it
-abbrev pub add_line : ℕ → Option (Option Line) → Result (List Line) ℕ → Result (List Line) ℕ
-add_line number None more = Err number
-add_line number (Some None) more = more
-add_line number (Some (Some line)) (Ok more) = Ok (line ∷ more)
-add_line number (Some (Some line)) (Err first) = Err first
-
--- the lines of a script, the first of which has this number, or the number of the first that has no reading
-abbrev pub script_of : ℕ → List Word → Result (List Line) ℕ
-script_of number [] = Ok []
-script_of number (text ∷ texts) = add_line number (line_of number text) (script_of (number + 1) texts)
-
--- What a reader of lines returned is what the reading is, unless memory ran out.
-abbrev pub GivesLines : Result (List Line) ScriptError → Result (List Line) ℕ → Type 0
-GivesLines (Ok lines) reading = reading ≡ Ok lines
-GivesLines (Err (errors.Fault line)) reading = reading ≡ Err line
-GivesLines (Err errors.Memory) reading = Unit {0}
+-- the lines before the first that has no reading, and the number of that one
+abbrev pub Reading : Type 0
+Reading = List Line × Option ℕ
 
 -- a reading with the lines that were read before it
-abbrev pub with_lines : List Line → Result (List Line) ℕ → Result (List Line) ℕ
-with_lines front (Ok more) = Ok (front ++ more)
-with_lines front (Err first) = Err first
+abbrev pub with_lines : List Line → Reading → Reading
+with_lines earlier more = (earlier ++ more.0, more.1)
 
--- why a line is not taken
-abbrev pub Refuses : ℕ → Option (Option Line) → ScriptError → Type 0
-Refuses number reading (errors.Fault line) = (line ≡ number) × (reading ≡ None)
-Refuses number reading errors.Memory = Unit {0}
+-- a line before what follows it, which is not read where the line has no reading
+abbrev pub add_line : ℕ → Option (Option Line) → Reading → Reading
+add_line number None more = ([], Some number)
+add_line number (Some None) more = more
+add_line number (Some (Some line)) more = with_lines (line ∷ []) more
+
+-- the reading of lines, the first of which has this number
+abbrev pub front_of : ℕ → List Word → Reading
+front_of number [] = ([], None)
+front_of number (text ∷ texts) = add_line number (line_of number text) (front_of (number + 1) texts)

@@ -1,20 +1,19 @@
 //! Scripts, line by line.
 
-ghost use Rattle.std.specs.Prelude.{◌≡◌, ◌⊎◌, ◌+◌, ◌≤◌, ◌<◌, length, map, IfErr, IfOk, OnErr, OnOk, Result, ℕ};
-ghost use Rattle.std.specs.Prelude as prelude;
-ghost use Rattle.call_scripts.specs.declared.script.Line as declared;
+ghost use Rattle.std.specs.Prelude.{◌≡◌, ◌⊎◌, ◌+◌, ◌≤◌, ◌<◌, length, map, IfErr, IfOk, None, OnErr, OnOk};
+ghost use Rattle.call_scripts.specs.declared.error.Unread.TheVariants.{NoReading};
 ghost use Rattle.call_scripts.specs.declared.script.Script as spelled;
 ghost use Rattle.std.specs.Str.Lines.{lines};
-ghost use Rattle.call_scripts.specs.Lines.{Blames, IsScript, OneReading};
+ghost use Rattle.call_scripts.specs.Lines.{Blames, IsScript, OneReading, ReadsUpTo};
 ghost use Rattle.call_scripts.specs.Reading as reading;
-ghost use Rattle.call_scripts.specs.Reading.{Gives, GivesLines, Refuses, add_line, line_of, script_of, with_lines, words_line_of};
+ghost use Rattle.call_scripts.specs.Reading.{Gives, Reading, add_line, line_of, with_lines, words_line_of};
 
 use crate::commands::act;
 use crate::error::{ScriptError, Unread};
-use crate::script::{Line, Script};
+use crate::script::{Front, Line, Script};
 use crate::texts::{is_plain, joined, next_line, words};
 use std::alloc::Global;
-use xp_base::List;
+use xp_base::{List, Memory};
 
 /// The longest script, in bytes.
 pub const MAX_SCRIPT: usize = 1_048_576;
@@ -32,8 +31,37 @@ pub fn read_script(alloc: Global, bytes: &[u8]) -> Result<Script, ScriptError>
     ensures only { (script : spelled.Script) → IsScript bytes.now script → (result ≡ Ok script) ⊎ (result ≡ Err ScriptError.Memory) }
     ensures err { IfErr result (Blames bytes.now) }
 {
-    let lines = all_lines(alloc, bytes)?;
-    Ok(Script { lines })
+    let Front { script, fault } = read_front(alloc, bytes)?;
+    match fault {
+        None => Ok(script),
+        Some(line) => Err(ScriptError::Fault { line }),
+    }
+}
+
+/// The script that the front of the bytes spells: all lines, or those before the first that has no reading, and the
+/// number of that line. Lines are those of `read_script`. The one error is want of memory.
+pub fn read_front(alloc: Global, bytes: &[u8]) -> Result<Front, Memory>
+    requires { length bytes.now ≤ 1048576 }
+    ensures { IfOk result (λ front. ReadsUpTo 1 (lines bytes.now) front.script.lines front.fault) }
+{
+    let mut lines = List::new(alloc);
+    let mut rest = bytes;
+    let mut number = 0u32;
+    while let Some((text, more)) = next_line(rest) {
+        number += 1;
+        match add(&mut lines, alloc, text, number) {
+            Ok(()) => rest = more,
+            Err(Unread::NoReading) => return Ok(Front {
+                script: Script { lines },
+                fault: Some(number),
+            }),
+            Err(Unread::NoMemory) => return Err(Memory),
+        }
+    }
+    Ok(Front {
+        script: Script { lines },
+        fault: None,
+    })
 }
 
 /// A line of a text has at most one reading. It does nothing: what it ensures is the law.
@@ -41,37 +69,16 @@ pub fn one_reading()
     ensures { OneReading }
 {}
 
-/// The lines of the script.
-fn all_lines(alloc: Global, bytes: &[u8]) -> Result<List<Line>, ScriptError>
-    requires { length bytes.now ≤ 1048576 }
-    ensures { GivesLines result (script_of 1 (lines bytes.now)) }
-{
-    let mut all = List::new(alloc);
-    let mut rest = bytes;
-    let mut number = 0u32;
-    while let Some((text, more)) = next_line(rest) {
-        number += 1;
-        add(&mut all, alloc, text, number)?;
-        rest = more;
-    }
-    Ok(all)
-}
-
 /// Reads a line, and adds it where it is one.
-fn add(all: &mut List<Line>, alloc: Global, text: &[u8], number: u32) -> Result<(), ScriptError>
-    ensures ok { OnOk result ((more : Result (prelude.List declared.Line) ℕ) → with_lines all.new more ≡ with_lines all.old (add_line number (line_of number text.now) more)) }
-    ensures err { IfErr result (Refuses number (line_of number text.now)) }
+fn add(all: &mut List<Line>, alloc: Global, text: &[u8], number: u32) -> Result<(), Unread>
+    ensures ok { OnOk result ((more : Reading) → with_lines all.new more ≡ with_lines all.old (add_line number (line_of number text.now) more)) }
+    ensures err { result ≡ Err NoReading → line_of number text.now ≡ None }
     ensures same { OnErr result (all.new ≡ all.old) }
 {
-    match line(alloc, text, number) {
-        Ok(None) => Ok(()),
-        Ok(Some(line)) => {
-            all.push(line)?;
-            Ok(())
-        }
-        Err(Unread::NoReading) => Err(ScriptError::Fault { line: number }),
-        Err(Unread::NoMemory) => Err(ScriptError::Memory),
+    if let Some(line) = line(alloc, text, number)? {
+        all.push(line)?;
     }
+    Ok(())
 }
 
 /// What a line of a text reads as: a line of the script, or nothing.

@@ -6,6 +6,15 @@ pub struct Script {
     pub lines: List<Line>,
 }
 
+/// The script that the front of a text spells.
+#[derive(Debug, Drop)]
+pub struct Front {
+    /// The lines before the first line of the text that has no reading; all, where each has one.
+    pub script: Script,
+    /// Which line of the text that is, counted from 1.
+    pub fault: Option<u32>,
+}
+
 /// A line of a script.
 #[derive(Debug, Drop)]
 pub struct Line {

@@ -158,3 +158,15 @@ fn all_lines_are_counted(rt: HostRuntime) -> Result<(), Fail> {
     assert_eq!(rt; fault_line(&rt, alloc, b"# \xc3\xa9"), 1);
     Ok(())
 }
+
+#[test]
+fn a_front_ends_before_a_fault(rt: HostRuntime) -> Result<(), Fail> {
+    let alloc = rt.alloc();
+    let front = read_front(alloc, b"object o nsIA\njump\nobject p nsIA")?;
+    assert_eq!(rt; front.script.lines.len(), 1);
+    assert_eq!(rt; front.fault, Some(2));
+    let front = read_front(alloc, b"object o nsIA\n\nobject p nsIA")?;
+    assert_eq!(rt; front.script.lines.len(), 2);
+    assert_eq!(rt; front.fault, None);
+    Ok(())
+}

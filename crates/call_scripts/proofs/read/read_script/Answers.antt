@@ -1,22 +1,21 @@
-use Rattle.std.proofs.Common.{Ok, Err, ap, ◌∙◌, inl, inr}
-use Rattle.std.proofs.lemmas.Result.{err_from_is_err_and}
+use Rattle.std.proofs.Common.{Ok, ap, sym, ◌∙◌, inl}
 use Rattle.std.specs.Str.Lines.{lines}
-use Rattle.call_scripts.proofs.Laws.{lines_blamed, lines_not_blamed, lines_only, texts_read}
+use Rattle.std.proofs.lemmas.Option.{none-some}
+use Rattle.call_scripts.proofs.Laws.{front_only, front_unread, front_whole}
 use Rattle.call_scripts.proofs.read.read_script.Goals as goal
 
-pub returns-in_err-lines-clause-only : goal.returns-in_err-lines-clause-only
-returns-in_err-lines-clause-only c =
-    let failed = err_from_is_err_and c.from_residual.result c.from_residual.ensures.1 in
-    λ script is. inr (failed.1 ∙ ap Err (failed.2 ∙ lines_not_blamed c.args.bytes.now script c.in_err-lines.field-0.0 c.in_err-lines.ensures is))
+pub returns-in-None-clause-ok : goal.returns-in-None-clause-ok
+returns-in-None-clause-ok c =
+    front_whole 1 (lines c.args.bytes.now) c.in_ok-script.field-0.script.lines (rw c.in-None.is at c.in_ok-script.ensures)
 
-pub returns-in_err-lines-clause-err : goal.returns-in_err-lines-clause-err
-returns-in_err-lines-clause-err c =
-    let failed = err_from_is_err_and c.from_residual.result c.from_residual.ensures.1 in
-    rw (failed.1, failed.2) (lines_blamed c.args.bytes.now c.in_err-lines.field-0.0 c.in_err-lines.ensures)
+pub returns-in-None-clause-only : goal.returns-in-None-clause-only
+returns-in-None-clause-only c =
+    λ script is. inl (ap Ok (ap (λ all. record { lines = all }) (front_only 1 (lines c.args.bytes.now) script.lines c.in_ok-script.field-0.script.lines c.in_ok-script.field-0.fault is c.in_ok-script.ensures).0))
 
-pub returns-clause-ok : goal.returns-clause-ok
-returns-clause-ok c = texts_read 1 (lines c.args.bytes.now) c.in_ok-lines.lines c.in_ok-lines.ensures
+pub returns-in-Some-clause-only : goal.returns-in-Some-clause-only
+returns-in-Some-clause-only c =
+    λ script is. absurd (none-some c.in-Some.line (sym (front_only 1 (lines c.args.bytes.now) script.lines c.in_ok-script.field-0.script.lines c.in_ok-script.field-0.fault is c.in_ok-script.ensures).1 ∙ c.in-Some.is))
 
-pub returns-clause-only : goal.returns-clause-only
-returns-clause-only c =
-    λ script is. inl (ap Ok (ap (λ all. record { lines = all }) (lines_only c.args.bytes.now script c.in_ok-lines.lines c.in_ok-lines.ensures is)))
+pub returns-in-Some-clause-err : goal.returns-in-Some-clause-err
+returns-in-Some-clause-err c =
+    front_unread 1 (lines c.args.bytes.now) c.in_ok-script.field-0.script.lines c.in-Some.line (rw c.in-Some.is at c.in_ok-script.ensures)
