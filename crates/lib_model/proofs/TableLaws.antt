@@ -1,13 +1,12 @@
 -- The table of a library, told by the library: its slots are the methods' own, and what is looked for in it is looked for there.
 use Rattle.std.proofs.Common.{◌≡◌, ℕ, zero, suc, ◌+◌, List, [], ◌∷◌, length, Option, Some, None, Bool, cond, not, refl, sym, ap, ◌∙◌, option_and_then}
-use Rattle.std.specs.Prelude.{map, option_map, slice_get, is_some, ◌&&◌, ◌++◌}
+use Rattle.std.specs.Prelude.{map, option_map, slice_get, is_some, ◌&&◌}
 use Rattle.std.specs.List.{position, position_or_len}
 use Rattle.std.specs.Str.{bytes_eq}
 use Rattle.std.proofs.lemmas.List.{length-map, map-append}
 use Rattle.std.proofs.lemmas.Option.{slice_get-map}
 use Rattle.call_model.specs.declared.prototypes.MemberKind.{MemberKind}
 use Rattle.call_model.specs.declared.tables.TableIface.{TableIface}
-use Rattle.call_model.specs.declared.tables.TableSlot.{TableSlot}
 use Rattle.call_model.specs.Tables.{behind_or, iface_at, iface_named, is_member, member_within, slots_of, slots_within}
 use Rattle.call_model.specs.Tables as tables
 use Rattle.lib_model.specs.declared.contents.Library.{Library}
@@ -49,10 +48,6 @@ slots_within_table ifaces zero k = refl
 slots_within_table ifaces (suc n) k =
     let rest : slots_within (map table_iface ifaces) n (parent_of ifaces k) ≡ map slot_of (methods_within ifaces n (parent_of ifaces k)) = slots_within_table ifaces n (parent_of ifaces k)
     in rw (parent_in_table ifaces k, slots_in_table ifaces k, rest) (sym (map-append slot_of (methods_within ifaces n (parent_of ifaces k)) (methods_in (body_of ifaces k))))
-
-pub table_ifaces : (lib : Library) → (table_of lib).ifaces ≡ map table_iface lib.ifaces
-unfolding table_of
-table_ifaces lib = refl
 
 pub slots_of_table : (lib : Library) (k : ℕ) → slots_of (table_of lib) k ≡ map slot_of (methods_of lib k)
 unfolding table_of

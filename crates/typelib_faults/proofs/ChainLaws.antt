@@ -65,9 +65,6 @@ slots_on ifaces n i k low some =
     let j : n - i ≡ suc (n - (i + 1)) = omega (arith, low)
     in ap (λ (m : ℕ). slots_within ifaces m k) j ∙ slots_step ifaces (n - (i + 1)) k some
 
-pub climb_end : (ifaces : List Iface) (n : ℕ) → climbed ifaces n 0 ≡ 0
-climb_end ifaces n = climbed_none ifaces n
-
 pub slots_end : (ifaces : List Iface) (n : ℕ) → slots_within ifaces n 0 ≡ 0
 slots_end ifaces n = chain_none ifaces n
 
@@ -139,9 +136,6 @@ known_links x k low some =
     in (ap parent_in body, ap slots_in body ∙ length_values (method_at x) (method_end x) (place + 4) (half_at x (place + 2)))
 
 -- ---- the same, as the code says it
-
-place_before : (x : List ℕ) (directory number : ℕ) → directory ≡ directory_of x → 0 < number → directory + 28 * (number - 1) + 24 ≡ directory_of x + 28 * (number - 1) + 24
-place_before x directory number is above = omega arith
 
 pub links_inside : (x : List ℕ) (directory number : ℕ) → directory ≡ directory_of x → directory_fault x ≡ None → 0 < number → number ≤ count_of x → word_at x (directory + 28 * (number - 1) + 24) ≢ 0 → (place_of x (word_at x (directory + 28 * (number - 1) + 24)) + 4 ≤ length x) × (half_at x (place_of x (word_at x (directory + 28 * (number - 1) + 24))) ≤ count_of x)
 links_inside x directory number is fine above below some =

@@ -210,11 +210,13 @@ values_past value next s zero k h = refl
 values_past value next s (suc n) zero h = absurd (omega (arith, h))
 values_past value next s (suc n) (suc k) h = values_past value next (next s) n k (omega (arith, h))
 
--- the value that is read at the cursor which so many steps reach
+-- at the cursor which so many steps reach: its place, and the value that is read there
+pub place_reached : (next : Cursor → Cursor) (end : ℕ → ℕ) → ((c : Cursor) → (next c).place ≡ end c.place) → (c : Cursor) (k : ℕ) (at : Cursor) → at ≡ reach next c k → at.place ≡ reach end c.place k
+place_reached next end steps c k at is = ap (λ (s : Cursor). s.place) is ∙ reach_place next end steps c k
+
 pub value_reached : {A : Type 0} (next : Cursor → Cursor) (value : ℕ → A) (end : ℕ → ℕ) → ((c : Cursor) → (next c).place ≡ end c.place) → (c : Cursor) (n k : ℕ) (at : Cursor) → k < n → at ≡ reach next c k → Some (value at.place) ≡ slice_get (values value end c.place n) k
 value_reached next value end steps c n k at low is =
-    ap (λ (s : Cursor). Some (value s.place)) is
-    ∙ (ap (λ (p : ℕ). Some (value p)) (reach_place next end steps c k) ∙ sym (values_get value end c.place n k low))
+    ap (λ (p : ℕ). Some (value p)) (place_reached next end steps c k at is) ∙ sym (values_get value end c.place n k low)
 
 -- one step on
 pub step_more : {S : Type 0} (g : S → S) (s a b : S) (i : ℕ) → a ≡ reach g s i → b ≡ g a → b ≡ reach g s (i + 1)

@@ -1,0 +1,4 @@
+pub mod MethodLaws
+pub mod SearchLaws
+pub mod ThinLaws
+pub mod ViewLaws

@@ -1,0 +1,71 @@
+-- What the views of a library stand for, and what they are asked.
+use Rattle.std.specs.Prelude.{ℕ, zero, suc, ◌+◌, ◌==◌, ◌*◌, Bool, ◌&&◌, is_some, option_map, List, length, slice_get, Option, Some, None, sum_by, if◌then◌else◌, nat_lt}
+use Rattle.std.specs.List.{list_any, position}
+use Rattle.std.specs.Str.{bytes_eq}
+use Rattle.lib_model.specs.declared.contents.Library.{Library}
+use Rattle.lib_model.specs.declared.contents.Body.{Body}
+use Rattle.lib_model.specs.declared.contents.Iface.{Iface}
+use Rattle.lib_model.specs.declared.flags.IfaceFlags.{IfaceFlags}
+use Rattle.lib_model.specs.declared.contents.Method.{Method}
+use Rattle.typelib_faults.specs.declared.cursor.Cursor.{Cursor}
+use Rattle.typelib_faults.specs.Places.{directory_of, entry_at}
+use Rattle.lib_model.specs.Valid.{chain_of, own_slots, parent_of}
+
+-- the cursor at a place, with no items before it
+abbrev pub first_at : ℕ → Cursor
+first_at p = record { place = p; items = 0 }
+
+-- an interface of a library, by its number counted from 1
+pub record IfaceOf : Type 0 where
+  pub library : Library
+  pub number : ℕ
+
+-- a method, and its slot in its interface
+pub record MethodOf : Type 0 where
+  pub method : Method
+  pub slot : ℕ
+
+abbrev pub nth_iface : List Iface → ℕ → Option Iface
+nth_iface ifaces zero = None
+nth_iface ifaces (suc k) = slice_get ifaces k
+
+abbrev pub iface_of : IfaceOf → Option Iface
+iface_of v = nth_iface v.library.ifaces v.number
+
+-- the interface of this number, where there is one
+abbrev pub numbered : Library → ℕ → Option IfaceOf
+numbered lib zero = None
+numbered lib (suc k) =
+    if nat_lt k (length lib.ifaces) then Some (record { library = lib; number = suc k }) else None
+
+-- one past the last slot of an interface: its slots are those of its chain of parents
+abbrev pub end_slot_of : IfaceOf → ℕ
+end_slot_of v = sum_by (own_slots v.library.ifaces) (chain_of v.library.ifaces v.number)
+
+-- a resolved interface of this name, and of this identifier
+abbrev pub is_named : List ℕ → Iface → Bool
+is_named name i = is_some i.body && bytes_eq i.name name
+
+abbrev pub has_iid : List ℕ → Iface → Bool
+has_iid iid i = is_some i.body && bytes_eq i.iid iid
+
+-- the number, counted from 1, of the first interface that passes a test
+abbrev pub first_number : (Iface → Bool) → Library → Option ℕ
+first_number test lib = option_map (λ k. k + 1) (position test lib.ifaces)
+
+-- the entry of the interface that has so many before it
+abbrev pub entry_after : List ℕ → ℕ → Iface
+entry_after x k = entry_at x (directory_of x + 28 * k)
+
+-- the first own slot of an interface: as many slots stand before it as its parent has
+abbrev pub first_slot_of : IfaceOf → ℕ
+first_slot_of v = sum_by (own_slots v.library.ifaces) (chain_of v.library.ifaces (parent_of v.library.ifaces v.number))
+
+-- whether an interface is this one or one of its ancestors
+abbrev pub descends_from : Library → ℕ → ℕ → Bool
+descends_from lib k from = list_any (λ n. n == from) (chain_of lib.ifaces k)
+
+-- the flags of an interface that has this body; none without one
+abbrev pub flags_in : Option Body → IfaceFlags
+flags_in None = record { bits = 0 }
+flags_in (Some b) = b.flags

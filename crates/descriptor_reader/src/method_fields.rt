@@ -1,0 +1,62 @@
+ghost use Rattle.std.specs.Prelude.{◌≡◌, None};
+ghost use Rattle.lib_model.specs.Table.{kind_of};
+ghost use Rattle.typelib_faults.specs.Faults.{method_fault, param_fault, param_next};
+ghost use Rattle.typelib_faults.specs.Places.{method_at, param_at, param_end};
+ghost use Rattle.typelib_faults.specs.Walk.{values, walk};
+
+use call_model::MemberKind;
+use descriptor_check::File;
+use descriptor_check::arguments::Params;
+use descriptor_check::names::known_name;
+use lib_model::MethodFlags;
+use typelib_faults::Cursor;
+
+/// The bits of a method's flags that are known.
+const KNOWN: u8 = 0x80 | 0x40 | 0x20 | 0x10 | 0x08 | 0x04 | 0x02;
+
+/// The flags of the method at a cursor, which has no fault.
+pub(crate) fn flags_of_method(file: &File<'_>, at: Cursor) -> MethodFlags
+    requires { method_fault file.now.bytes.now at ≡ None }
+    ensures { result ≡ (method_at file.now.bytes.now at.place).flags }
+{
+    let bits = file.bytes[at.place] & KNOWN;
+    MethodFlags { bits }
+}
+
+/// The name of the method at a cursor, which has no fault.
+pub(crate) fn name_of_method<'a>(file: &File<'a>, at: Cursor) -> &'a [u8]
+    requires { method_fault file.now.bytes.now at ≡ None }
+    ensures { result.now ≡ (method_at file.now.bytes.now at.place).name }
+{
+    known_name(file, at.place + 1)
+}
+
+/// What the method at a cursor, which has no fault, is: a method, or the reading or the writing half of an attribute.
+pub(crate) fn kind_of_method(file: &File<'_>, at: Cursor) -> MemberKind
+    requires { method_fault file.now.bytes.now at ≡ None }
+    ensures { result ≡ kind_of (method_at file.now.bytes.now at.place) }
+{
+    let bits = flags_of_method(file, at).bits;
+    if bits & MethodFlags::GETTER.bits != 0 {
+        MemberKind::Get
+    } else if bits & MethodFlags::SETTER.bits != 0 {
+        MemberKind::Set
+    } else {
+        MemberKind::Plain
+    }
+}
+
+/// The parameters of the method at a cursor, which has no fault.
+pub(crate) fn params_of_method(file: &File<'_>, at: Cursor) -> Params
+    requires { method_fault file.now.bytes.now at ≡ None }
+    ensures fine { walk (param_fault file.now.bytes.now) (param_next file.now.bytes.now) result.from result.count ≡ None }
+    ensures are { values (param_at file.now.bytes.now) (param_end file.now.bytes.now) result.from.place result.count ≡ (method_at file.now.bytes.now at.place).params }
+{
+    Params {
+        from: Cursor {
+            place: at.place + 6,
+            items: at.items + 1,
+        },
+        count: file.bytes[at.place + 5],
+    }
+}

@@ -1,0 +1,89 @@
+ghost use Rattle.std.specs.Prelude.{◌≡◌, ◌≤◌, length};
+ghost use Rattle.lib_model.specs.Table.{kind_of, status_of};
+
+use crate::method_fields::{flags_of_method, kind_of_method, name_of_method, params_of_method};
+use crate::param_iter::ParamIter;
+use crate::statuses::status_of_method;
+use call_model::{MemberKind, Status};
+use descriptor_check::File;
+use lib_model::MethodFlags;
+use std::marker::Model;
+use typelib_faults::Cursor;
+
+/// A method of a typelib that has been checked, with its slot.
+#[derive(Drop)]
+pub struct MethodView<'a> {
+    pub(crate) file: File<'a>,
+    pub(crate) at: Cursor,
+    pub(crate) slot: u16,
+}
+
+impl<'a> Model for MethodView<'a> {
+    ghost use Rattle.std.specs.Prelude.{◌≡◌, None};
+    ghost use Rattle.typelib_faults.specs.Faults.{method_fault};
+    ghost use Rattle.typelib_faults.specs.Places.{method_at};
+    ghost use Rattle.descriptor_reader.specs.Views.{MethodOf};
+
+    ghost Value = { MethodOf };
+
+    ghost view = { λ v. record { method = method_at v.file.bytes.now v.at.place; slot = v.slot } };
+
+    ghost invariant = { λ v. method_fault v.file.bytes.now v.at ≡ None };
+}
+
+impl<'a> MethodView<'a> {
+    /// Its slot, counted from 0 through its interface's ancestors.
+    pub fn slot(&self) -> u16
+        ensures { result ≡ self.now.slot }
+    {
+        self.slot
+    }
+
+    /// Its name.
+    pub fn name(&self) -> &'a [u8]
+        ensures { result.now ≡ self.now.method.name }
+    {
+        name_of_method(&self.file, self.at)
+    }
+
+    /// What it is: a method, or the reading or the writing half of an attribute.
+    pub fn kind(&self) -> MemberKind
+        ensures { result ≡ kind_of self.now.method }
+    {
+        kind_of_method(&self.file, self.at)
+    }
+
+    /// What else the typelib says of it.
+    pub fn flags(&self) -> MethodFlags
+        ensures { result ≡ self.now.method.flags }
+    {
+        flags_of_method(&self.file, self.at)
+    }
+
+    /// Whether it may be called, and if not, why.
+    pub fn status(&self) -> Status
+        ensures { result ≡ status_of self.now.method }
+    {
+        status_of_method(&self.file, self.at)
+    }
+
+    /// The number of its parameters, a return value among them.
+    pub fn param_count(&self) -> u32
+        ensures { result ≡ length self.now.method.params }
+    {
+        u32::from(params_of_method(&self.file, self.at).count)
+    }
+
+    /// Its parameters in order, a return value among them.
+    pub fn params(&self) -> ParamIter<'a>
+        ensures items { result ≡ self.now.method.params }
+        ensures few { length result ≤ 255 }
+    {
+        let params = params_of_method(&self.file, self.at);
+        ParamIter {
+            file: self.file,
+            at: params.from,
+            left: params.count,
+        }
+    }
+}

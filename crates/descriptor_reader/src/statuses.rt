@@ -1,0 +1,75 @@
+ghost use Rattle.std.specs.Prelude.{◌≡◌, None};
+ghost use Rattle.std.specs.List.{list_any};
+ghost use Rattle.lib_model.specs.declared.param_types.Param.{Param};
+ghost use Rattle.lib_model.specs.Table.{is_opaque, is_opaque_tag, is_string_class, status_of};
+ghost use Rattle.typelib_faults.specs.Faults.{method_fault, param_fault, param_next};
+ghost use Rattle.typelib_faults.specs.Places.{method_at, param_at, param_end};
+ghost use Rattle.typelib_faults.specs.Walk.{values, walk};
+
+use crate::method_fields::{flags_of_method, params_of_method};
+use call_model::Status;
+use descriptor_check::File;
+use descriptor_check::arguments::{Params, known_param};
+use lib_model::{Elem, MethodFlags, XType};
+use typelib_faults::Cursor;
+
+/// Whether the tag is that of void, which stands for a native type, or of jsval.
+fn is_opaque_tag(tag: u8) -> bool
+    ensures { result ≡ is_opaque_tag tag }
+{
+    matches!(tag, 13 | 26)
+}
+
+/// Whether the tag is that of a string class: DOMString, UTF8String, CString or AString.
+fn is_string_class(tag: u8) -> bool
+    ensures { result ≡ is_string_class tag }
+{
+    matches!(tag, 15 | 23 | 24 | 25)
+}
+
+/// Whether no call can pass a value of the type.
+fn is_opaque(ty: XType) -> bool
+    ensures { result ≡ is_opaque ty }
+{
+    match ty {
+        XType::Plain(tag) => is_opaque_tag(tag),
+        XType::Array {
+            elem: Elem::Plain(tag),
+            ..
+        } => is_opaque_tag(tag) || is_string_class(tag),
+        _ => false,
+    }
+}
+
+/// Whether one of these parameters, which have no fault, has a type that no call can pass.
+fn any_opaque(file: &File<'_>, params: Params) -> bool
+    requires { walk (param_fault file.now.bytes.now) (param_next file.now.bytes.now) params.from params.count ≡ None }
+    ensures { result ≡ list_any (λ (p : Param). is_opaque p.ty) (values (param_at file.now.bytes.now) (param_end file.now.bytes.now) params.from.place params.count) }
+{
+    let mut at = params.from;
+    for _ in 0..params.count {
+        let (found, next) = known_param(file, at);
+        if is_opaque(found.ty) {
+            return true;
+        }
+        at = next;
+    }
+    false
+}
+
+/// Whether the method at a cursor, which has no fault, may be called, and if not, why.
+pub(crate) fn status_of_method(file: &File<'_>, at: Cursor) -> Status
+    requires { method_fault file.now.bytes.now at ≡ None }
+    ensures { result ≡ status_of (method_at file.now.bytes.now at.place) }
+{
+    let bits = flags_of_method(file, at).bits;
+    if bits & MethodFlags::HIDDEN.bits != 0 {
+        Status::Hidden
+    } else if bits & MethodFlags::NOTXPCOM.bits != 0 {
+        Status::NotXpcom
+    } else if any_opaque(file, params_of_method(file, at)) {
+        Status::Opaque
+    } else {
+        Status::Callable
+    }
+}

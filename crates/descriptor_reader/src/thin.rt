@@ -1,0 +1,114 @@
+ghost use Rattle.std.specs.Prelude.{◌≡◌, ◌<◌, ◌↔◌, All, IsTrue, None};
+ghost use Rattle.lib_model.specs.Thin.{IsThin, IsThinBody, IsThinIface, IsThinMethod, IsThinParam};
+ghost use Rattle.typelib_faults.specs.Bytes.{AreBytes};
+ghost use Rattle.typelib_faults.specs.Faults.{descriptor_fault, method_fault, method_next, param_fault, param_next};
+ghost use Rattle.typelib_faults.specs.Laws.{IsFine};
+ghost use Rattle.typelib_faults.specs.Places.{descriptor_at, directory_of, entry_at, library_of, method_at, method_end, param_at, param_end};
+ghost use Rattle.typelib_faults.specs.Walk.{values, walk};
+ghost use Rattle.descriptor_reader.specs.Views.{first_at};
+
+use crate::descriptors::{
+    Methods, Rest, behind_method, descriptor_place, methods_of_descriptor, rest_of_descriptor,
+};
+use crate::method_fields::{flags_of_method, params_of_method};
+use descriptor_check::File;
+use descriptor_check::arguments::{Params, known_param};
+use descriptor_check::interfaces::NAMESPACE_OFFSET;
+use descriptor_check::numbers::{half, word};
+use lib_model::{Param, ParamFlags, XType};
+use typelib_faults::Cursor;
+
+/// The tag of a number of 32 bits with a sign.
+const I32_TAG: u8 = 2;
+
+/// Whether a parameter carries a number of 32 bits into the call.
+fn thin_param(param: Param) -> bool
+    ensures { IsTrue result ↔ IsThinParam param }
+{
+    param.flags == ParamFlags::IN && param.ty == XType::Plain(I32_TAG)
+}
+
+/// Whether all these parameters, which have no fault, carry a number of 32 bits into the call.
+fn thin_params(file: &File<'_>, params: Params) -> bool
+    requires { walk (param_fault file.now.bytes.now) (param_next file.now.bytes.now) params.from params.count ≡ None }
+    ensures { IsTrue result ↔ All IsThinParam (values (param_at file.now.bytes.now) (param_end file.now.bytes.now) params.from.place params.count) }
+{
+    let mut at = params.from;
+    for _ in 0..params.count {
+        let (found, next) = known_param(file, at);
+        if !thin_param(found) {
+            return false;
+        }
+        at = next;
+    }
+    true
+}
+
+/// Whether the method at a cursor, which has no fault, is thin.
+fn thin_method(file: &File<'_>, at: Cursor) -> bool
+    requires { method_fault file.now.bytes.now at ≡ None }
+    ensures { IsTrue result ↔ IsThinMethod (method_at file.now.bytes.now at.place) }
+{
+    flags_of_method(file, at).bits == 0 && thin_params(file, params_of_method(file, at))
+}
+
+/// Whether all these methods, which have no fault, are thin.
+fn thin_methods(file: &File<'_>, methods: Methods) -> bool
+    requires { walk (method_fault file.now.bytes.now) (method_next file.now.bytes.now) methods.from methods.count ≡ None }
+    ensures { IsTrue result ↔ All IsThinMethod (values (method_at file.now.bytes.now) (method_end file.now.bytes.now) methods.from.place methods.count) }
+{
+    let mut at = methods.from;
+    for _ in 0..methods.count {
+        if !thin_method(file, at) {
+            return false;
+        }
+        at = behind_method(file, at);
+    }
+    true
+}
+
+/// Whether an interface has no parent, no constants and no flags.
+fn is_bare(parent: u16, rest: Rest) -> bool
+    ensures { IsTrue result ↔ ((parent ≡ 0) × (rest.constant_count ≡ 0) × (rest.flags.bits ≡ 0)) }
+{
+    parent == 0 && rest.constant_count == 0 && rest.flags.bits == 0
+}
+
+/// Whether the descriptor at `place`, which has no fault, is thin.
+fn thin_descriptor(file: &File<'_>, place: usize) -> bool
+    requires { descriptor_fault file.now.bytes.now (first_at place) ≡ None }
+    ensures { IsTrue result ↔ IsThinBody (descriptor_at file.now.bytes.now place) }
+{
+    if !is_bare(half(file.bytes, place), rest_of_descriptor(file, place)) {
+        return false;
+    }
+    thin_methods(file, methods_of_descriptor(file, place))
+}
+
+/// Whether the only interface is thin.
+fn thin_entry(file: &File<'_>) -> bool
+    requires fine { IsFine file.now.bytes.now }
+    requires bytes { AreBytes file.now.bytes.now }
+    requires one { file.now.count ≡ 1 }
+    ensures { IsTrue result ↔ IsThinIface (entry_at file.now.bytes.now (directory_of file.now.bytes.now)) }
+{
+    if word(file.bytes, file.directory + NAMESPACE_OFFSET) != 0 {
+        return false;
+    }
+    match descriptor_place(file, 1) {
+        Some(place) => thin_descriptor(file, place),
+        None => false,
+    }
+}
+
+/// Whether the library is thin.
+pub(crate) fn thin_library(file: &File<'_>) -> bool
+    requires fine { IsFine file.now.bytes.now }
+    requires bytes { AreBytes file.now.bytes.now }
+    ensures { IsTrue result ↔ IsThin (library_of file.now.bytes.now) }
+{
+    if file.count != 1 {
+        return false;
+    }
+    thin_entry(file)
+}
