@@ -1,0 +1,10 @@
+pub mod AnswerLaws
+pub mod ArgumentLaws
+pub mod CallLaws
+pub mod FrameLaws
+pub mod ObjectLaws
+pub mod RunLaws
+pub mod StageLaws
+pub mod ThinReadings
+pub mod ThinTables
+pub mod TranscriptRows
