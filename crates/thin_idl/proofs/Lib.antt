@@ -1,0 +1,4 @@
+pub mod Compiled
+pub mod ThinLaws
+pub mod ThinLibrary
+pub mod TreeLaws
