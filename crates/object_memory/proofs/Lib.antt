@@ -1,5 +1,6 @@
 pub mod Access
 pub mod Digits
+pub mod Entries
 pub mod Growth
 pub mod Held
 pub mod Lists

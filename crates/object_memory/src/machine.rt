@@ -239,9 +239,10 @@ impl Machine {
     }
 
     /// The entry of a slot: the word at the word at `this` and as many words further. None exactly where one of the two
-    /// loads is outside.
+    /// loads is outside. On a machine that holds a heap, each object of it leads to the slot's entry address.
     pub fn slot_entry(&self, this: u64, slot: u16) -> Option<u64>
-        ensures { result ≡ entry_at self.now this slot }
+        ensures loaded { result ≡ entry_at self.now this slot }
+        ensures held { (heap : List Content) → Holds self.now heap → Contains self.now.objects this → slot < SLOTS → result ≡ Some (Layout.entry_of slot) }
     {
         let width = word_width(self.conv);
         let table = self.load(this, width)?;
