@@ -1,7 +1,3 @@
-pub mod CompileLaws
-pub mod FetchLaws
-pub mod SignLaws
-pub mod ThinLibrary
-pub mod ThinOnce
-pub mod WorkLaws
+pub mod InputLaws
 pub mod RunLaws
+pub mod WorkLaws

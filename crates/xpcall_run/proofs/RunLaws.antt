@@ -1,46 +1,20 @@
 -- What follows from how a run ends.
-use Rattle.std.proofs.Common.{◌≡◌, ◌≢◌, ◌⊎◌, ℕ, ◌<◌, ◌≤◌, List, length, take, Option, Some, None, inl, inr, refl, sym, ap, subst, ◌∙◌, arith}
+use Rattle.std.proofs.Common.{◌≡◌, ◌≢◌, ◌⊎◌, ℕ, ◌<◌, ◌≤◌, List, length, Option, Some, None, inl, inr, refl, sym, ap, subst, ◌∙◌, arith}
 use Rattle.std.proofs.Math.Seq.{take-length}
 use Rattle.xp_base.specs.Files.{Files}
 use Rattle.xp_base.specs.Written.{Gained, GainedNothing, GainedPrefix}
-use Rattle.idl_lexer.specs.Tokens.{line_behind}
-use Rattle.idl_lexer.proofs.LexLaws.{one_reading}
-use Rattle.lib_model.specs.Emit.{emit}
+use Rattle.xpcall_run.specs.declared.failures.FileFault.{FileFault}
+use Rattle.xpcall_run.specs.declared.failures.FileFault.TheVariants.{Missing, TooLong, Token, Syntax, Form, Typelib, Script}
 use Rattle.xpcall_run.specs.declared.failures.Failure.{Failure}
-use Rattle.xpcall_run.specs.declared.failures.Failure.TheVariants.{Usage, CannotRead, CannotWrite, OutOfMemory, NoFile, TooLong, Token as NoToken, Form}
+use Rattle.xpcall_run.specs.declared.failures.Failure.TheVariants.{Usage, CannotRead, CannotWrite, OutOfMemory, Refused}
 use Rattle.xpcall_run.specs.Commands.{command_of}
-use Rattle.xpcall_run.specs.FaultText.{failure_text, status_of}
+use Rattle.xpcall_run.specs.FaultText.{failure_text, fault_status, status_of}
 use Rattle.xpcall_run.specs.Headline.{Denies, Ends, Gives, HasBegun, HasWritten, IsCause, IsCutShort, IsFirst, IsKept, IsReported, IsStatus, ToldWritten}
-use Rattle.xpcall_run.specs.Meaning.{Input, no_command, no_file, long_file, file, Refuses, Writes, command_input, input_of}
+use Rattle.xpcall_run.specs.Meaning.{Input, no_command, Refuses, Writes, command_input, input_of}
 use Rattle.xpcall_run.specs.Reporting.{Reports}
-use Rattle.xpcall_run.specs.ThinFiles.{library_of}
-use Rattle.xpcall_run.proofs.ThinOnce.{thin_once}
+use Rattle.xpcall_run.proofs.InputLaws.{refuses_once, writes_not_refuses, writes_once}
 
--- ---- an input comes to one thing
-
-writes_once : (input : Input) (text other : List ℕ) → Writes input text → Writes input other → text ≡ other
-writes_once no_command text other w v = absurd w
-writes_once (no_file name) text other w v = absurd w
-writes_once (long_file name) text other w v = absurd w
-writes_once (file name bytes) text other w v =
-    w.2 ∙ ap (λ i. emit (library_of i)) (thin_once bytes w.0 v.0 w.1 v.1) ∙ sym v.2
-
-refuses_once : (input : Input) (failure other : Failure) → Refuses input failure → Refuses input other → failure ≡ other
-refuses_once no_command f o r s = r ∙ sym s
-refuses_once (no_file name) f o r s = r ∙ sym s
-refuses_once (long_file name) f o r s = r ∙ sym s
-refuses_once (file name bytes) f o (inl r) (inl s) =
-    r.2 ∙ ap (λ at. NoToken name (line_behind (take at bytes))) ((one_reading bytes).one_place r.0 s.0 r.1 s.1) ∙ sym s.2
-refuses_once (file name bytes) f o (inl r) (inr s) = absurd ((one_reading bytes).not_both s.0.0 r.0 s.0.1 r.1)
-refuses_once (file name bytes) f o (inr r) (inl s) = absurd ((one_reading bytes).not_both r.0.0 s.0 r.0.1 s.1)
-refuses_once (file name bytes) f o (inr r) (inr s) = r.2 ∙ sym s.2
-
-writes_not_refuses : (input : Input) (text : List ℕ) (failure : Failure) → Writes input text → Refuses input failure → ⊥
-writes_not_refuses no_command text f w r = w
-writes_not_refuses (no_file name) text f w r = w
-writes_not_refuses (long_file name) text f w r = w
-writes_not_refuses (file name bytes) text f w (inl r) = (one_reading bytes).not_both w.1.tokens r.0 w.1.spelled r.1
-writes_not_refuses (file name bytes) text f w (inr r) = r.1 w.0 w.1
+-- ---- words that are no command
 
 no_command_input : (words : List (List ℕ)) (told : Files) → command_of words ≡ None → input_of words told ≡ no_command
 unfolding input_of
@@ -63,25 +37,37 @@ prefix_of_whole before after text whole =
 
 -- ---- the statuses
 
+fault_known : (fault : FileFault) → IsStatus (fault_status fault)
+fault_known Missing = (5, omega arith, refl)
+fault_known TooLong = (6, omega arith, refl)
+fault_known (Token line) = (7, omega arith, refl)
+fault_known (Syntax line) = (7, omega arith, refl)
+fault_known Form = (7, omega arith, refl)
+fault_known Typelib = (8, omega arith, refl)
+fault_known (Script line) = (9, omega arith, refl)
+
+fault_late : (fault : FileFault) → 6 ≤ fault_status fault
+fault_late Missing = omega arith
+fault_late TooLong = omega arith
+fault_late (Token line) = omega arith
+fault_late (Syntax line) = omega arith
+fault_late Form = omega arith
+fault_late Typelib = omega arith
+fault_late (Script line) = omega arith
+
 status_known : (failure : Failure) → IsStatus (status_of failure)
 status_known Usage = (1, omega arith, refl)
 status_known (CannotRead name) = (2, omega arith, refl)
 status_known CannotWrite = (3, omega arith, refl)
 status_known OutOfMemory = (4, omega arith, refl)
-status_known (NoFile name) = (5, omega arith, refl)
-status_known (TooLong name) = (6, omega arith, refl)
-status_known (NoToken name line) = (7, omega arith, refl)
-status_known (Form name) = (7, omega arith, refl)
+status_known (Refused name fault) = fault_known fault
 
 status_positive : (failure : Failure) → 2 ≤ status_of failure
 status_positive Usage = omega arith
 status_positive (CannotRead name) = omega arith
 status_positive CannotWrite = omega arith
 status_positive OutOfMemory = omega arith
-status_positive (NoFile name) = omega arith
-status_positive (TooLong name) = omega arith
-status_positive (NoToken name line) = omega arith
-status_positive (Form name) = omega arith
+status_positive (Refused name fault) = omega (arith, fault_late fault)
 
 reported_status : (failure : Failure) (before after : Option (List ℕ)) (unreported : Type 0) (status : ℕ) → Reports failure before after unreported status → IsStatus status
 reported_status f before after unreported status (inl whole) = subst IsStatus (sym whole.0) (status_known f)
@@ -162,10 +148,7 @@ gives_failed words files U W R before after status CannotWrite told text e w fir
     gives_late status before after text (late_report CannotWrite R status (inl refl) report) (begun_text words files before after told text e w first.1)
 gives_failed words files U W R before after status OutOfMemory told text e w first report =
     gives_late status before after text (late_report OutOfMemory R status (inr refl) report) (kept_prefix words files before after told text e w first.1)
-gives_failed words files U W R before after status (NoFile name) told text e w first report = absurd (writes_not_refuses _ text _ w (first.0.1 told e))
-gives_failed words files U W R before after status (TooLong name) told text e w first report = absurd (writes_not_refuses _ text _ w (first.0.1 told e))
-gives_failed words files U W R before after status (NoToken name line) told text e w first report = absurd (writes_not_refuses _ text _ w (first.0.1 told e))
-gives_failed words files U W R before after status (Form name) told text e w first report = absurd (writes_not_refuses _ text _ w (first.0.1 told e))
+gives_failed words files U W R before after status (Refused name fault) told text e w first report = absurd (writes_not_refuses _ text _ w (first.0.1 told e))
 
 pub run_gives : (words : List (List ℕ)) (files : Option Files) (unread unwritten unreported : Type 0) (before after err_before err_after : Option (List ℕ)) (status : ℕ) → Ends words files unread unwritten unreported before after err_before err_after status → (told : Files) (text : List ℕ) → files ≡ Some told → Writes (input_of words told) text → Gives status before after text
 run_gives words files U W R before after eb ea status (inl done) told text e w =
@@ -206,14 +189,8 @@ denies_failed words files U W R before after status CannotWrite told failure e r
     absurd (let b = first.1 told e in writes_not_refuses (input_of words told) b.0 failure b.1 r)
 denies_failed words files U W R before after status OutOfMemory told failure e r first report =
     denies_memory words files before after U R status failure told e r first.1 report
-denies_failed words files U W R before after status (NoFile name) told failure e r first report =
-    refused_status words files U W R before after status (NoFile name) failure (refuses_once _ (NoFile name) failure (first.0.1 told e) r) first.1 report
-denies_failed words files U W R before after status (TooLong name) told failure e r first report =
-    refused_status words files U W R before after status (TooLong name) failure (refuses_once _ (TooLong name) failure (first.0.1 told e) r) first.1 report
-denies_failed words files U W R before after status (NoToken name line) told failure e r first report =
-    refused_status words files U W R before after status (NoToken name line) failure (refuses_once _ (NoToken name line) failure (first.0.1 told e) r) first.1 report
-denies_failed words files U W R before after status (Form name) told failure e r first report =
-    refused_status words files U W R before after status (Form name) failure (refuses_once _ (Form name) failure (first.0.1 told e) r) first.1 report
+denies_failed words files U W R before after status (Refused name fault) told failure e r first report =
+    refused_status words files U W R before after status (Refused name fault) failure (refuses_once _ (Refused name fault) failure (first.0.1 told e) r) first.1 report
 
 pub run_denies : (words : List (List ℕ)) (files : Option Files) (unread unwritten unreported : Type 0) (before after err_before err_after : Option (List ℕ)) (status : ℕ) → Ends words files unread unwritten unreported before after err_before err_after status → (told : Files) (failure : Failure) → files ≡ Some told → Refuses (input_of words told) failure → Denies status before after unread unreported failure
 run_denies words files U W R before after eb ea status (inl done) told failure e r =
@@ -242,10 +219,7 @@ kept_early words files before after Usage early kept = kept
 kept_early words files before after (CannotRead name) early kept = kept
 kept_early words files before after CannotWrite early kept = absurd (early (inl refl))
 kept_early words files before after OutOfMemory early kept = absurd (early (inr refl))
-kept_early words files before after (NoFile name) early kept = kept
-kept_early words files before after (TooLong name) early kept = kept
-kept_early words files before after (NoToken name line) early kept = kept
-kept_early words files before after (Form name) early kept = kept
+kept_early words files before after (Refused name fault) early kept = kept
 
 reports_early : (words : List (List ℕ)) (files : Option Files) (unread unwritten unreported : Type 0) (before after err_before err_after : Option (List ℕ)) (status : ℕ) (failure : Failure) → (IsLate status → ⊥) → IsFirst words files unread unwritten before after failure → Reports failure err_before err_after unreported status → IsReported words files unread unwritten err_before err_after status × GainedNothing before after
 reports_early words files U W R before after eb ea status failure early first (inl whole) =
@@ -278,10 +252,7 @@ whole_unwritten words files U W eb ea Usage is cause told = absurd (omega (arith
 whole_unwritten words files U W eb ea (CannotRead name) is cause told = absurd (omega (arith, is))
 whole_unwritten words files U W eb ea CannotWrite is cause told = (cause.1, cause.2, told)
 whole_unwritten words files U W eb ea OutOfMemory is cause told = absurd (omega (arith, is))
-whole_unwritten words files U W eb ea (NoFile name) is cause told = absurd (omega (arith, is))
-whole_unwritten words files U W eb ea (TooLong name) is cause told = absurd (omega (arith, is))
-whole_unwritten words files U W eb ea (NoToken name line) is cause told = absurd (omega (arith, is))
-whole_unwritten words files U W eb ea (Form name) is cause told = absurd (omega (arith, is))
+whole_unwritten words files U W eb ea (Refused name fault) is cause told = absurd (omega (arith, is, fault_late fault))
 
 reports_unwritten : (words : List (List ℕ)) (files : Option Files) (unread unwritten unreported : Type 0) (err_before err_after : Option (List ℕ)) (status : ℕ) (failure : Failure) → status ≡ 4 → IsCause words files unread unwritten failure → Reports failure err_before err_after unreported status → unreported ⊎ (unwritten × ToldWritten words files × Gained err_before err_after (failure_text CannotWrite))
 reports_unwritten words files U W R eb ea status failure four cause (inl whole) =
@@ -296,13 +267,10 @@ run_unwritten words files U W R before after eb ea status (inr failed) four =
 
 usage_alone : (words : List (List ℕ)) (files : Option Files) (unread unwritten : Type 0) (failure : Failure) → command_of words ≡ None → IsCause words files unread unwritten failure → (failure ≡ Usage) ⊎ (failure ≡ OutOfMemory)
 usage_alone words files U W Usage none cause = inl refl
-usage_alone words files U W (CannotRead name) none cause = absurd (let h = cause.0 in cc (h, none))
+usage_alone words files U W (CannotRead name) none cause = absurd (let h = cause.0.1 in cc (h, none))
 usage_alone words files U W CannotWrite none cause = absurd (let h = cause.0.1 in cc (h, none))
 usage_alone words files U W OutOfMemory none cause = inr refl
-usage_alone words files U W (NoFile name) none cause = absurd (let h = cause.0 in cc (h, none))
-usage_alone words files U W (TooLong name) none cause = absurd (let h = cause.0 in cc (h, none))
-usage_alone words files U W (NoToken name line) none cause = absurd (let h = cause.0 in cc (h, none))
-usage_alone words files U W (Form name) none cause = absurd (let h = cause.0 in cc (h, none))
+usage_alone words files U W (Refused name fault) none cause = absurd (let h = cause.0.1 in cc (h, none))
 
 usage_status : (failure : Failure) (unreported : Type 0) (status : ℕ) → (failure ≡ Usage) ⊎ (failure ≡ OutOfMemory) → ReportStatus failure unreported status → (status ≡ 2) ⊎ ((status ≡ 4) × unreported) ⊎ (status ≡ 5)
 usage_status failure R status (inl usage) (inl is) = inl (is ∙ ap status_of usage)
@@ -327,10 +295,7 @@ memory_alone words files U W Usage told text e w reads puts cause = absurd (not_
 memory_alone words files U W (CannotRead name) told text e w reads puts cause = absurd (reads cause.1)
 memory_alone words files U W CannotWrite told text e w reads puts cause = absurd (puts cause.1)
 memory_alone words files U W OutOfMemory told text e w reads puts cause = refl
-memory_alone words files U W (NoFile name) told text e w reads puts cause = absurd (writes_not_refuses _ text _ w (cause.1 told e))
-memory_alone words files U W (TooLong name) told text e w reads puts cause = absurd (writes_not_refuses _ text _ w (cause.1 told e))
-memory_alone words files U W (NoToken name line) told text e w reads puts cause = absurd (writes_not_refuses _ text _ w (cause.1 told e))
-memory_alone words files U W (Form name) told text e w reads puts cause = absurd (writes_not_refuses _ text _ w (cause.1 told e))
+memory_alone words files U W (Refused name fault) told text e w reads puts cause = absurd (writes_not_refuses _ text _ w (cause.1 told e))
 
 pub run_complete : (words : List (List ℕ)) (files : Option Files) (unread unwritten unreported : Type 0) (before after err_before err_after : Option (List ℕ)) (status : ℕ) → Ends words files unread unwritten unreported before after err_before err_after status → (told : Files) (text : List ℕ) → files ≡ Some told → Writes (input_of words told) text → (unread → ⊥) → (unwritten → ⊥) → (unreported → ⊥) → (status ≡ 0) ⊎ (status ≡ 5)
 run_complete words files U W R before after eb ea status (inl done) told text e w reads puts reports = inl done.0

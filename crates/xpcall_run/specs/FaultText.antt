@@ -1,20 +1,28 @@
 -- The status of each failure, and what is written of it.
 use Rattle.std.specs.Prelude.{ℕ, pos, List, [], ◌∷◌, ◌++◌, codes}
 use Rattle.xp_base.specs.Digits.{decimal_text}
-use Rattle.xp_base.specs.declared.sinks.SinkError.{SinkError}
-use Rattle.xp_base.specs.declared.sinks.SinkError.TheVariants as sink
+use Rattle.xp_base.specs.declared.run_faults.RunFault.{RunFault}
+use Rattle.xp_base.specs.declared.run_faults.RunFault.TheVariants as run
+use Rattle.xpcall_run.specs.declared.failures.FileFault.{FileFault}
+use Rattle.xpcall_run.specs.declared.failures.FileFault.TheVariants.{Missing, TooLong, Token, Syntax, Form, Typelib, Script}
 use Rattle.xpcall_run.specs.declared.failures.Failure.{Failure}
-use Rattle.xpcall_run.specs.declared.failures.Failure.TheVariants.{Usage, CannotRead, CannotWrite, OutOfMemory, NoFile, TooLong, Token, Form}
+use Rattle.xpcall_run.specs.declared.failures.Failure.TheVariants.{Usage, CannotRead, CannotWrite, OutOfMemory, Refused}
+
+abbrev pub fault_status : FileFault → ℕ
+fault_status Missing = 6
+fault_status TooLong = 7
+fault_status (Token line) = 10
+fault_status (Syntax line) = 10
+fault_status Form = 10
+fault_status Typelib = 11
+fault_status (Script line) = 12
 
 abbrev pub status_of : Failure → ℕ
 status_of Usage = 2
 status_of (CannotRead name) = 3
 status_of CannotWrite = 4
 status_of OutOfMemory = 5
-status_of (NoFile name) = 6
-status_of (TooLong name) = 7
-status_of (Token name line) = 10
-status_of (Form name) = 10
+status_of (Refused name fault) = fault_status fault
 
 -- a text and its line feed
 abbrev pub line_of : List ℕ → List ℕ
@@ -23,18 +31,29 @@ line_of text = text ++ 10 ∷ []
 abbrev pub usage : List ℕ
 usage = codes "usage: xpcall compile FILE... | dump XPT | call CONV XPT SCRIPT | big N"
 
+-- a name, the number of a line of that file, and what is said of the line
+abbrev pub at_line : (name : List ℕ) → (line : ℕ) → (said : List ℕ) → List ℕ
+at_line name line said = name ++ codes ":" ++ decimal_text (pos line) ++ said
+
+-- what is said of the file of this name that has this fault
+abbrev pub fault_text : (name : List ℕ) → FileFault → List ℕ
+fault_text name Missing = codes "no file " ++ name
+fault_text name TooLong = codes "too long " ++ name
+fault_text name (Token line) = at_line name line (codes ": token")
+fault_text name (Syntax line) = at_line name line (codes ": syntax")
+fault_text name Form = name ++ codes ": form"
+fault_text name Typelib = name ++ codes ": form"
+fault_text name (Script line) = at_line name line (codes ": script")
+
 -- the text of a failure, a line
 unfoldable pub failure_text : Failure → List ℕ
 failure_text Usage = line_of usage
 failure_text (CannotRead name) = line_of (codes "cannot read " ++ name)
 failure_text CannotWrite = line_of (codes "cannot write")
 failure_text OutOfMemory = line_of (codes "out of memory")
-failure_text (NoFile name) = line_of (codes "no file " ++ name)
-failure_text (TooLong name) = line_of (codes "too long " ++ name)
-failure_text (Token name line) = line_of (name ++ codes ":" ++ decimal_text (pos line) ++ codes ": token")
-failure_text (Form name) = line_of (name ++ codes ": form")
+failure_text (Refused name fault) = line_of (fault_text name fault)
 
--- what a run fails by whose output's sink gives this answer
-abbrev pub output_failure : SinkError → Failure
-output_failure sink.Failed = CannotWrite
-output_failure sink.Memory = OutOfMemory
+-- what a run fails by whose output is cut short by this
+abbrev pub output_failure : RunFault → Failure
+output_failure run.Sink = CannotWrite
+output_failure run.Memory = OutOfMemory

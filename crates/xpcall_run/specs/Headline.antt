@@ -2,12 +2,13 @@
 use Rattle.std.specs.Prelude.{◌≡◌, ◌⊎◌, ℕ, List, [], ◌∷◌, Contains, Option, Some, None}
 use Rattle.xp_base.specs.Files.{Files}
 use Rattle.xp_base.specs.Written.{Gained, GainedNothing, GainedPrefix}
-use Rattle.xpcall_run.specs.declared.commands.Command.TheVariants.{Compile}
+use Rattle.xpcall_run.specs.declared.commands.Command.{Command}
 use Rattle.xpcall_run.specs.declared.failures.Failure.{Failure}
-use Rattle.xpcall_run.specs.declared.failures.Failure.TheVariants.{Usage, CannotRead, CannotWrite, OutOfMemory, NoFile, TooLong, Token as NoToken, Form}
+use Rattle.xpcall_run.specs.declared.failures.Failure.TheVariants.{Usage, CannotRead, CannotWrite, OutOfMemory, Refused}
 use Rattle.xpcall_run.specs.Commands.{command_of}
 use Rattle.xpcall_run.specs.FaultText.{failure_text, status_of}
 use Rattle.xpcall_run.specs.Meaning.{Refuses, Writes, input_of}
+use Rattle.xpcall_run.specs.Needs.{FileKind, any_file, Needs, kind_of}
 use Rattle.xpcall_run.specs.Reporting.{Reports}
 
 -- where the files are told, the input is refused with this failure
@@ -18,25 +19,27 @@ ToldRefused words files failure = (told : Files) → files ≡ Some told → Ref
 abbrev pub ToldWritten : (words : List (List ℕ)) → (files : Option Files) → Type 0
 ToldWritten words files = (told : Files) → files ≡ Some told → (text : List ℕ) × Writes (input_of words told) text
 
--- the words ask to compile the file of this name
-abbrev pub Compiles : (words : List (List ℕ)) → (name : List ℕ) → Type 0
-Compiles words name = command_of words ≡ Some (Compile name)
+-- the words are this command
+abbrev pub Asks : (words : List (List ℕ)) → Command → Type 0
+Asks words command = command_of words ≡ Some command
 
 -- the words are a command
 abbrev pub IsCommand : (words : List (List ℕ)) → Type 0
-IsCommand words = (name : List ℕ) × Compiles words name
+IsCommand words = (command : Command) × Asks words command
+
+-- the words are a command that needs the file of this name as one of this kind
+abbrev pub AskFor : (words : List (List ℕ)) → (files : Option Files) → FileKind → (name : List ℕ) → Type 0
+AskFor words files kind name = (command : Command) × Asks words command × Needs files command kind name
 
 -- The cause of the failure that comes first. `unread` says that the source's count of faults rose in the run, `unwritten`
 -- that the output's did. Want of memory needs no cause.
 abbrev pub IsCause : (words : List (List ℕ)) → (files : Option Files) → (unread unwritten : Type 0) → Failure → Type 0
 IsCause words files unread unwritten Usage = command_of words ≡ None
-IsCause words files unread unwritten (CannotRead name) = Compiles words name × unread
+IsCause words files unread unwritten (CannotRead name) = AskFor words files any_file name × unread
 IsCause words files unread unwritten CannotWrite = IsCommand words × unwritten × ToldWritten words files
 IsCause words files unread unwritten OutOfMemory = Unit {0}
-IsCause words files unread unwritten (NoFile name) = Compiles words name × ToldRefused words files (NoFile name)
-IsCause words files unread unwritten (TooLong name) = Compiles words name × ToldRefused words files (TooLong name)
-IsCause words files unread unwritten (NoToken name line) = Compiles words name × ToldRefused words files (NoToken name line)
-IsCause words files unread unwritten (Form name) = Compiles words name × ToldRefused words files (Form name)
+IsCause words files unread unwritten (Refused name fault) =
+    AskFor words files (kind_of fault) name × ToldRefused words files (Refused name fault)
 
 -- The run gives the text: on status 0 the output gained exactly this text, on 4 and 5 a prefix of it, on 3 nothing; and no
 -- other status comes.
@@ -85,10 +88,7 @@ IsKept words files before after Usage = GainedNothing before after
 IsKept words files before after (CannotRead name) = GainedNothing before after
 IsKept words files before after CannotWrite = HasBegun words files before after
 IsKept words files before after OutOfMemory = GainedNothing before after ⊎ HasBegun words files before after
-IsKept words files before after (NoFile name) = GainedNothing before after
-IsKept words files before after (TooLong name) = GainedNothing before after
-IsKept words files before after (NoToken name line) = GainedNothing before after
-IsKept words files before after (Form name) = GainedNothing before after
+IsKept words files before after (Refused name fault) = GainedNothing before after
 
 -- A failure came first, from its cause, and the output gained no more than it may.
 abbrev pub IsFirst : (words : List (List ℕ)) → (files : Option Files) → (unread unwritten : Type 0) → (before after : Option (List ℕ)) → Failure → Type 0
@@ -103,4 +103,4 @@ Ends words files unread unwritten unreported out_before out_after err_before err
 
 -- the statuses of the program as far as they come
 abbrev pub IsStatus : ℕ → Type 0
-IsStatus status = Contains (0 ∷ 2 ∷ 3 ∷ 4 ∷ 5 ∷ 6 ∷ 7 ∷ 10 ∷ []) status
+IsStatus status = Contains (0 ∷ 2 ∷ 3 ∷ 4 ∷ 5 ∷ 6 ∷ 7 ∷ 10 ∷ 11 ∷ 12 ∷ []) status

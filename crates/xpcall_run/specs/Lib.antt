@@ -2,7 +2,6 @@ pub mod Commands
 pub mod FaultText
 pub mod Headline
 pub mod Meaning
+pub mod Needs
 pub mod Reporting
-pub mod Thin
-pub mod ThinFiles
-pub mod ThinReading
+pub mod Stops

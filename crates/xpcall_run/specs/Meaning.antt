@@ -1,96 +1,126 @@
 -- What a run comes to where the files are told and nothing fails.
-use Rattle.std.specs.Prelude.{◌≡◌, ◌<◌, ◌≤◌, ◌⊎◌, ℕ, nat_lt, Result, Ok, Err, List, take, length, Option, Some, None, if◌then◌else◌}
+use Rattle.std.specs.Prelude.{◌≡◌, ◌⊎◌, ℕ, nat_lt, List, length, Option, Some, None, if◌then◌else◌}
 use Rattle.xp_base.specs.Files.{Files, file_in}
-use Rattle.idl_lexer.specs.declared.token.Token.{Token}
-use Rattle.idl_lexer.specs.Tokens.{AreTokens, IsNoToken, line_behind}
+use Rattle.call_model.specs.declared.places.Conv.TheVariants.{SysV64}
+use Rattle.lib_model.specs.declared.contents.Library.{Library}
+use Rattle.lib_model.specs.Denotes.{Denotes}
 use Rattle.lib_model.specs.Emit.{emit}
+use Rattle.lib_model.specs.Table.{table_of}
+use Rattle.lib_model.specs.Thin.{IsThin}
+use Rattle.thin_idl.specs.declared.thin_error.ThinError.TheVariants as idl
+use Rattle.thin_idl.specs.declared.thin_interface.ThinInterface.{ThinInterface}
+use Rattle.thin_idl.specs.Faults.{Blames}
+use Rattle.thin_idl.specs.ThinFile.{IsThinFile}
+use Rattle.thin_idl.specs.ThinLibrary.{library_of}
+use Rattle.call_scripts.specs.declared.error.ScriptError.TheVariants as script
+use Rattle.call_scripts.specs.declared.script.Script as spelled
+use Rattle.script_run.specs.ThinScripts.{BlamesThin, IsThinScript}
+use Rattle.script_run.specs.Transcript.{static}
 use Rattle.xpcall_run.specs.declared.commands.Command.{Command}
-use Rattle.xpcall_run.specs.declared.commands.Command.TheVariants.{Compile}
+use Rattle.xpcall_run.specs.declared.commands.Command.TheVariants.{Compile, Call}
+use Rattle.xpcall_run.specs.declared.failures.FileFault.{FileFault}
+use Rattle.xpcall_run.specs.declared.failures.FileFault.TheVariants.{Missing, TooLong, Token, Syntax, Form, Typelib, Script}
 use Rattle.xpcall_run.specs.declared.failures.Failure.{Failure}
-use Rattle.xpcall_run.specs.declared.failures.Failure.TheVariants.{Usage, CannotRead, CannotWrite, OutOfMemory, NoFile, TooLong, Token as NoToken, Form}
-use Rattle.xpcall_run.specs.declared.thin_interface.ThinInterface.{ThinInterface}
+use Rattle.xpcall_run.specs.declared.failures.Failure.TheVariants.{Usage, Refused}
 use Rattle.xpcall_run.specs.Commands.{command_of}
-use Rattle.xpcall_run.specs.ThinFiles.{IsThinFile, library_of}
 
--- what the words and the files are to the program: no command, a file that is absent or too long, or a file to compile
+-- ---- inputs
+
+-- the most bytes of an IDL file and of a script
+abbrev pub longest_text : ℕ
+longest_text = 1048576
+
+-- the most bytes of a typelib
+abbrev pub longest_typelib : ℕ
+longest_typelib = 8388608
+
+-- What the words and the files are to the program: no command, a file that is absent or too long, an IDL file to compile, or
+-- a typelib and a script to run.
 pub data Input : Type 0 where
   no_command : Input
   no_file : (name : List ℕ) → Input
   long_file : (name : List ℕ) → Input
-  file : (name bytes : List ℕ) → Input
+  idl_file : (name bytes : List ℕ) → Input
+  call_files : (typelib_name script_name typelib_bytes script_bytes : List ℕ) → Input
 
--- an IDL file has at most 1,048,576 bytes
-abbrev pub file_input : (name : List ℕ) → Option (List ℕ) → Input
-file_input name None = no_file name
-file_input name (Some bytes) = if nat_lt 1048576 (length bytes) then long_file name else file name bytes
+-- a file that may have so many bytes is absent or too long, or its bytes are this input
+abbrev pub file_input : (limit : ℕ) → (name : List ℕ) → Option (List ℕ) → (List ℕ → Input) → Input
+file_input limit name None input = no_file name
+file_input limit name (Some bytes) input = if nat_lt limit (length bytes) then long_file name else input bytes
 
+-- the script that is to be run over a typelib of these bytes
+abbrev pub script_input : (typelib script : List ℕ) → Files → (typelib_bytes : List ℕ) → Input
+script_input typelib script told bytes = file_input longest_text script (file_in told script) (call_files typelib script bytes)
+
+-- the file that is to be compiled; or the typelib, and then the script
 abbrev pub command_input : Option Command → Files → Input
 command_input None told = no_command
-command_input (Some (Compile name)) told = file_input name (file_in told name)
+command_input (Some (Compile name)) told = file_input longest_text name (file_in told name) (idl_file name)
+command_input (Some (Call typelib script)) told =
+    file_input longest_typelib typelib (file_in told typelib) (script_input typelib script told)
 
 unfoldable pub input_of : List (List ℕ) → Files → Input
 input_of words told = command_input (command_of words) told
 
--- the bytes of the file are given back where they are within the limit, and otherwise the file is refused
-abbrev pub IsLimited : (name bytes : List ℕ) → Result (List ℕ) Failure → Type 0
-IsLimited name bytes (Ok given) = (given ≡ bytes) × (length bytes ≤ 1048576)
-IsLimited name bytes (Err failure) = (failure ≡ OutOfMemory) ⊎ ((failure ≡ TooLong name) × (1048576 < length bytes))
+-- ---- what is written
 
--- The file was not fetched, and this is said of it. `unread` says that the source's count of faults rose.
-abbrev pub IsUnfetched : (files : Option Files) → (unread : Type 0) → (name : List ℕ) → Failure → Type 0
-IsUnfetched files unread name Usage = ⊥
-IsUnfetched files unread name (CannotRead n) = (n ≡ name) × unread
-IsUnfetched files unread name CannotWrite = ⊥
-IsUnfetched files unread name OutOfMemory = Unit {0}
-IsUnfetched files unread name (NoFile n) = (n ≡ name) × ((told : Files) → files ≡ Some told → file_in told name ≡ None)
-IsUnfetched files unread name (TooLong n) =
-    (n ≡ name) × ((told : Files) → files ≡ Some told → (bytes : List ℕ) × (file_in told name ≡ Some bytes) × (1048576 < length bytes))
-IsUnfetched files unread name (NoToken n line) = ⊥
-IsUnfetched files unread name (Form n) = ⊥
+-- the text is the typelib of what the bytes of a thin IDL file say
+abbrev pub WritesTypelib : (bytes text : List ℕ) → Type 0
+WritesTypelib bytes text = (i : ThinInterface) × IsThinFile bytes i × (text ≡ emit (library_of i))
 
--- the bytes of a file have no tokens, and this is said of it: the line of the first place at which none begins
-abbrev pub HasNoTokens : (name bytes : List ℕ) → Failure → Type 0
-HasNoTokens name bytes failure =
-    (at : ℕ) × IsNoToken bytes at × (failure ≡ NoToken name (line_behind (take at bytes)))
+-- the bytes denote this library, and it is thin
+pub record DenotesThin (bytes : List ℕ) (lib : Library) : Type 0 where
+  pub denoted : Denotes bytes lib
+  pub thin : IsThin lib
 
--- the tokens of a file are not those of a thin file, and this is said of it
-abbrev pub HasNoForm : (name bytes : List ℕ) → Failure → Type 0
-HasNoForm name bytes failure =
-    ((tokens : List Token) × AreTokens bytes tokens) × ((i : ThinInterface) → IsThinFile bytes i → ⊥) × (failure ≡ Form name)
+-- The text is the transcript of the calls of a script: of a thin one, which the script's bytes spell, over the table of a
+-- thin library, which the typelib's bytes denote.
+pub record WritesTranscript (typelib_bytes script_bytes text : List ℕ) : Type 0 where
+  pub lib : Library
+  pub denoted : DenotesThin typelib_bytes lib
+  pub script : spelled.Script
+  pub spelled : IsThinScript script_bytes script
+  pub transcript : text ≡ static (table_of lib) SysV64 script.lines
 
--- the file is refused with this failure, or memory ran out
-abbrev pub FileRefused : (name bytes : List ℕ) → Failure → Type 0
-FileRefused name bytes failure = HasNoTokens name bytes failure ⊎ HasNoForm name bytes failure ⊎ (failure ≡ OutOfMemory)
-
--- this input is refused with this failure
-abbrev pub Refuses : Input → Failure → Type 0
-Refuses no_command failure = failure ≡ Usage
-Refuses (no_file name) failure = failure ≡ NoFile name
-Refuses (long_file name) failure = failure ≡ TooLong name
-Refuses (file name bytes) failure = HasNoTokens name bytes failure ⊎ HasNoForm name bytes failure
-
--- of this input this text is written: the typelib of the library of a thin file
+-- of this input this text is written
 abbrev pub Writes : Input → List ℕ → Type 0
 Writes no_command text = ⊥
 Writes (no_file name) text = ⊥
 Writes (long_file name) text = ⊥
-Writes (file name bytes) text = (i : ThinInterface) × IsThinFile bytes i × (text ≡ emit (library_of i))
+Writes (idl_file name bytes) text = WritesTypelib bytes text
+Writes (call_files typelib_name script_name typelib_bytes script_bytes) text = WritesTranscript typelib_bytes script_bytes text
 
--- where the files are told, the file of this name is refused with this failure
-abbrev pub FileRefuses : (files : Option Files) → (name : List ℕ) → Failure → Type 0
-FileRefuses files name failure = (told : Files) → files ≡ Some told → Refuses (file_input name (file_in told name)) failure
+-- ---- what is refused
 
--- where the files are told, this is to be written of the file of this name
-abbrev pub FileWrites : (files : Option Files) → (name : List ℕ) → (text : List ℕ) → Type 0
-FileWrites files name text = (told : Files) → files ≡ Some told → Writes (file_input name (file_in told name)) text
+-- An IDL text has this fault: it has no tokens, its tokens have no tree, each with the line that is to blame, or its tree is
+-- not thin.
+abbrev pub HasIdlFault : (bytes : List ℕ) → FileFault → Type 0
+HasIdlFault bytes (Token line) = Blames bytes (idl.Token line)
+HasIdlFault bytes (Syntax line) = Blames bytes (idl.Syntax line)
+HasIdlFault bytes Form = Blames bytes idl.Form
+HasIdlFault bytes _ = ⊥
 
--- The file was not compiled, and this is said of it. `unread` says that the source's count of faults rose.
-abbrev pub IsUncompiled : (files : Option Files) → (unread : Type 0) → (name : List ℕ) → Failure → Type 0
-IsUncompiled files unread name Usage = ⊥
-IsUncompiled files unread name (CannotRead n) = (n ≡ name) × unread
-IsUncompiled files unread name CannotWrite = ⊥
-IsUncompiled files unread name OutOfMemory = Unit {0}
-IsUncompiled files unread name (NoFile n) = (n ≡ name) × FileRefuses files name (NoFile n)
-IsUncompiled files unread name (TooLong n) = (n ≡ name) × FileRefuses files name (TooLong n)
-IsUncompiled files unread name (NoToken n line) = (n ≡ name) × FileRefuses files name (NoToken n line)
-IsUncompiled files unread name (Form n) = (n ≡ name) × FileRefuses files name (Form n)
+-- the IDL file of this name is refused with this failure
+abbrev pub RefusesIdl : (name bytes : List ℕ) → Failure → Type 0
+RefusesIdl name bytes failure = (fault : FileFault) × HasIdlFault bytes fault × (failure ≡ Refused name fault)
+
+-- the bytes denote a thin library
+abbrev pub HasThinLibrary : List ℕ → Type 0
+HasThinLibrary bytes = (lib : Library) × DenotesThin bytes lib
+
+-- the typelib of this name is refused with this failure: its bytes denote no thin library
+abbrev pub RefusesTypelib : (name bytes : List ℕ) → Failure → Type 0
+RefusesTypelib name bytes failure = ¬ HasThinLibrary bytes × (failure ≡ Refused name Typelib)
+
+-- the script of this name is refused with this failure: this line of its bytes is the first that is no thin line
+abbrev pub RefusesScript : (name bytes : List ℕ) → Failure → Type 0
+RefusesScript name bytes failure = (line : ℕ) × BlamesThin bytes (script.Fault line) × (failure ≡ Refused name (Script line))
+
+-- this input is refused with this failure
+abbrev pub Refuses : Input → Failure → Type 0
+Refuses no_command failure = failure ≡ Usage
+Refuses (no_file name) failure = failure ≡ Refused name Missing
+Refuses (long_file name) failure = failure ≡ Refused name TooLong
+Refuses (idl_file name bytes) failure = RefusesIdl name bytes failure
+Refuses (call_files typelib_name script_name typelib_bytes script_bytes) failure =
+    RefusesTypelib typelib_name typelib_bytes failure ⊎ (HasThinLibrary typelib_bytes × RefusesScript script_name script_bytes failure)

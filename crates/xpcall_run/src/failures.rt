@@ -1,16 +1,38 @@
 //! What a run can fail by.
 
-ghost use Rattle.std.specs.Prelude.{◌≡◌};
-ghost use Rattle.xpcall_run.specs.FaultText.{output_failure, status_of};
+ghost use Rattle.std.specs.Prelude.{◌≡◌, ◌⊎◌};
+ghost use Rattle.xp_base.specs.Causes.{run_fault_of};
+ghost use Rattle.xpcall_run.specs.FaultText.{fault_status, output_failure, status_of};
 ghost use Rattle.xpcall_run.specs.declared.failures.Failure.TheVariants.{OutOfMemory as NoMemory};
 
-use xp_base::{Bytes, Memory, SinkError};
+use std::alloc::Global;
+use xp_base::{Bytes, Memory, RunFault, SinkError};
 
 /// The status of a run whose output or report could not be written.
 pub const CANNOT_WRITE: u8 = 4;
 
 /// The status of a run that found no memory.
 pub const OUT_OF_MEMORY: u8 = 5;
+
+/// What a file is refused for. Lines are counted from 1.
+#[derive(Clone, Copy, Debug)]
+pub enum FileFault {
+    /// There is no such file.
+    Missing,
+    /// The file passes its limit.
+    TooLong,
+    /// The text has no tokens. The first place at which none begins is on this line.
+    Token { line: u32 },
+    /// The text's tokens are no IDL file. This is the line of the first one that cannot go on, or of the last one where
+    /// more would have to follow it.
+    Syntax { line: u32 },
+    /// The text is an IDL file of a form that can't be compiled yet.
+    Form,
+    /// The bytes are no typelib, or one whose calls can't be made yet.
+    Typelib,
+    /// This is the first line that is no line of a script, or one that can't be run yet.
+    Script { line: u32 },
+}
 
 /// Why a run did not do what it was asked to.
 #[derive(Debug, Drop)]
@@ -23,14 +45,8 @@ pub enum Failure {
     CannotWrite,
     /// There was no memory.
     OutOfMemory,
-    /// There is no file of this name.
-    NoFile(Bytes),
-    /// The file of this name passes its limit.
-    TooLong(Bytes),
-    /// The file of this name has no tokens: none begins at some place on this line, counted from 1.
-    Token { name: Bytes, line: u32 },
-    /// The file of this name has no form that can be compiled yet.
-    Form(Bytes),
+    /// The file of this name has this fault.
+    Refused { name: Bytes, fault: FileFault },
 }
 
 impl From<Memory> for Failure {
@@ -41,18 +57,51 @@ impl From<Memory> for Failure {
     }
 }
 
-impl From<SinkError> for Failure {
+impl From<RunFault> for Failure {
     ghost from_gives = { λ fault e. e ≡ output_failure fault };
 
-    fn from(fault: SinkError) -> Failure {
+    fn from(fault: RunFault) -> Failure {
         match fault {
-            SinkError::Failed => Failure::CannotWrite,
-            SinkError::Memory => Failure::OutOfMemory,
+            RunFault::Sink => Failure::CannotWrite,
+            RunFault::Memory => Failure::OutOfMemory,
+        }
+    }
+}
+
+impl From<SinkError> for Failure {
+    ghost from_gives = { λ fault e. e ≡ output_failure (run_fault_of fault) };
+
+    fn from(fault: SinkError) -> Failure {
+        Failure::from(RunFault::from(fault))
+    }
+}
+
+impl FileFault {
+    /// The status that the program ends with which refuses a file for this.
+    fn status(self) -> u8
+        ensures { result ≡ fault_status self }
+    {
+        match self {
+            FileFault::Missing => 6,
+            FileFault::TooLong => 7,
+            FileFault::Token { .. } | FileFault::Syntax { .. } | FileFault::Form => 10,
+            FileFault::Typelib => 11,
+            FileFault::Script { .. } => 12,
         }
     }
 }
 
 impl Failure {
+    /// The failure of a run that refuses the file of this name for this; or want of memory for the name.
+    pub fn refused(alloc: Global, name: &Bytes, fault: FileFault) -> Failure
+        ensures { (result ≡ Failure.OutOfMemory) ⊎ (result ≡ Failure.Refused name.now fault) }
+    {
+        match Bytes::copy(alloc, name.as_slice()) {
+            Ok(name) => Failure::Refused { name, fault },
+            Err(Memory) => Failure::OutOfMemory,
+        }
+    }
+
     /// The status that the program ends with.
     pub fn status(&self) -> u8
         ensures { result ≡ status_of self.now }
@@ -62,10 +111,7 @@ impl Failure {
             Failure::CannotRead(_) => 3,
             Failure::CannotWrite => CANNOT_WRITE,
             Failure::OutOfMemory => OUT_OF_MEMORY,
-            Failure::NoFile(_) => 6,
-            Failure::TooLong(_) => 7,
-            Failure::Token { .. } => 10,
-            Failure::Form(_) => 10,
+            Failure::Refused { fault, .. } => fault.status(),
         }
     }
 }

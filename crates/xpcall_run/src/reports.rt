@@ -1,13 +1,12 @@
 //! The report of a failure.
 
-ghost use Rattle.std.specs.Prelude.{◌≡◌, ◌≤◌, ◌++◌, codes, pos, OnErr, OnOk};
+ghost use Rattle.std.specs.Prelude.{◌≡◌, ◌≤◌, ◌++◌, OnErr, OnOk};
 ghost use Rattle.xp_base.specs.Causes.{Rose, SinkCause};
-ghost use Rattle.xp_base.specs.Digits.{decimal_text};
 ghost use Rattle.xp_base.specs.Written.{Gained, GainedPrefix};
-ghost use Rattle.xpcall_run.specs.FaultText.{failure_text};
+ghost use Rattle.xpcall_run.specs.FaultText.{at_line, failure_text, fault_text, line_of};
 ghost use Rattle.xpcall_run.specs.Reporting.{Reports};
 
-use crate::failures::{CANNOT_WRITE, Failure, OUT_OF_MEMORY};
+use crate::failures::{CANNOT_WRITE, Failure, FileFault, OUT_OF_MEMORY};
 use std::alloc::Global;
 use xp_base::{Bytes, Sink, SinkError, dec_text, put_all};
 
@@ -38,10 +37,28 @@ fn put_failure<E: Sink>(alloc: Global, failure: &Failure, err: &mut E) -> Result
         Failure::CannotRead(name) => put_framed(alloc, b"cannot read ", name, b"\n", err),
         Failure::CannotWrite => put_all(err, b"cannot write\n"),
         Failure::OutOfMemory => put_all(err, b"out of memory\n"),
-        Failure::NoFile(name) => put_framed(alloc, b"no file ", name, b"\n", err),
-        Failure::TooLong(name) => put_framed(alloc, b"too long ", name, b"\n", err),
-        Failure::Token { name, line } => put_numbered(alloc, name, *line, b": token\n", err),
-        Failure::Form(name) => put_framed(alloc, b"", name, b": form\n", err),
+        Failure::Refused { name, fault } => put_fault(alloc, name, *fault, err),
+    }
+}
+
+/// Puts what is said of the file `name` that has this fault, a line.
+fn put_fault<E: Sink>(
+    alloc: Global,
+    name: &Bytes,
+    fault: FileFault,
+    err: &mut E,
+) -> Result<(), SinkError>
+    ensures ok { OnOk result (Gained (E.written err.old) (E.written err.new) (line_of (fault_text name.now fault))) }
+    ensures err { OnErr result (GainedPrefix (E.written err.old) (E.written err.new) (line_of (fault_text name.now fault))) }
+    ensures cause { SinkCause (E.faults err.old) (E.faults err.new) result }
+{
+    match fault {
+        FileFault::Missing => put_framed(alloc, b"no file ", name, b"\n", err),
+        FileFault::TooLong => put_framed(alloc, b"too long ", name, b"\n", err),
+        FileFault::Token { line } => put_numbered(alloc, name, line, b": token\n", err),
+        FileFault::Syntax { line } => put_numbered(alloc, name, line, b": syntax\n", err),
+        FileFault::Form | FileFault::Typelib => put_framed(alloc, b"", name, b": form\n", err),
+        FileFault::Script { line } => put_numbered(alloc, name, line, b": script\n", err),
     }
 }
 
@@ -71,8 +88,8 @@ fn put_numbered<E: Sink>(
     behind: &[u8],
     err: &mut E,
 ) -> Result<(), SinkError>
-    ensures ok { OnOk result (Gained (E.written err.old) (E.written err.new) (name.now ++ codes ":" ++ decimal_text (pos line) ++ behind.now)) }
-    ensures err { OnErr result (GainedPrefix (E.written err.old) (E.written err.new) (name.now ++ codes ":" ++ decimal_text (pos line) ++ behind.now)) }
+    ensures ok { OnOk result (Gained (E.written err.old) (E.written err.new) (at_line name.now line behind.now)) }
+    ensures err { OnErr result (GainedPrefix (E.written err.old) (E.written err.new) (at_line name.now line behind.now)) }
     ensures cause { SinkCause (E.faults err.old) (E.faults err.new) result }
 {
     let mut text = Bytes::copy(alloc, name.as_slice())?;

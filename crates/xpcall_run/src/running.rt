@@ -7,16 +7,17 @@ ghost use Rattle.xp_base.specs.Files.{Files};
 ghost use Rattle.xp_base.specs.Written.{Gained, GainedNothing};
 ghost use Rattle.xpcall_run.specs.Commands.{command_of};
 ghost use Rattle.xpcall_run.specs.FaultText.{failure_text};
-ghost use Rattle.xpcall_run.specs.Headline.{Denies, Ends, Gives, HasWritten, IsCutShort, IsFirst, IsReported, IsStatus, ToldWritten};
+ghost use Rattle.xpcall_run.specs.Headline.{Asks, Denies, Ends, Gives, HasWritten, IsCutShort, IsFirst, IsReported, IsStatus, ToldWritten};
 ghost use Rattle.xpcall_run.specs.declared.failures.Failure.TheVariants.{CannotWrite};
 ghost use Rattle.xpcall_run.specs.Meaning.{Refuses, Writes, input_of};
 
+use crate::calls::call;
 use crate::commands::{Command, read_command};
 use crate::compiles::compile;
 use crate::failures::Failure;
 use crate::reports::report;
 use std::alloc::Global;
-use xp_base::{Sink, Source, put_all};
+use xp_base::{Sink, Source};
 
 /// Does what the words ask for, up to the first failure.
 fn work<S: Source, O: Sink>(
@@ -44,17 +45,18 @@ fn obey<S: Source, O: Sink>(
     files: &mut S,
     out: &mut O,
 ) -> Result<(), Failure>
-    ensures ok { (words : List (List ℕ)) → command_of words ≡ Some command.now
+    ensures ok { (words : List (List ℕ)) → Asks words command.now
         → OnOk result (HasWritten words (S.files files.old) (O.written out.old) (O.written out.new)) }
-    ensures err { (words : List (List ℕ)) → command_of words ≡ Some command.now
+    ensures err { (words : List (List ℕ)) → Asks words command.now
         → IfErr result (IsFirst words (S.files files.old)
         (Rose (S.faults files.old) (S.faults files.new)) (Rose (O.faults out.old) (O.faults out.new))
         (O.written out.old) (O.written out.new)) }
     ensures same_files { S.files files.new ≡ S.files files.old }
 {
-    let text = compile(alloc, command.file_name(), files)?;
-    put_all(out, text.as_slice())?;
-    Ok(())
+    match command {
+        Command::Compile(name) => compile(alloc, name, files, out),
+        Command::Call { typelib, script } => call(alloc, typelib, script, files, out),
+    }
 }
 
 /// Does what the words ask for, and reports the first failure.
@@ -81,7 +83,7 @@ fn work_and_report<S: Source, O: Sink, E: Sink>(
 /// `words` are those of the command line, the program's name not among them. The files come from `files`; what the
 /// command gives goes to `out`, and a line of text to `err` where it fails. The statuses are 0, done; 2, the words are no
 /// command; 3, a file could not be read; 4, the output or the report could not be written; 5, want of memory; 6, a file is
-/// absent; 7, a file is too long; 10, a file can't be compiled.
+/// absent; 7, a file is too long; 10, a file can't be compiled; 11, a typelib can't be used; 12, a script can't be run.
 pub fn run<S: Source, O: Sink, E: Sink>(
     alloc: Global,
     words: &[String],
