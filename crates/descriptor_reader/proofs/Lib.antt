@@ -1,4 +1,5 @@
 pub mod MethodLaws
+pub mod PrototypeLaws
 pub mod SearchLaws
 pub mod ThinLaws
 pub mod ViewLaws

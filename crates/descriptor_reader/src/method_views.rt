@@ -1,9 +1,9 @@
 ghost use Rattle.std.specs.Prelude.{◌≡◌, ◌≤◌, length};
-ghost use Rattle.lib_model.specs.Table.{kind_of, status_of};
+ghost use Rattle.lib_model.specs.Table.{kind_of, slot_of, status_of};
 
 use crate::method_fields::{flags_of_method, kind_of_method, name_of_method, params_of_method};
 use crate::param_iter::ParamIter;
-use crate::statuses::status_of_method;
+use crate::statuses::{added_arguments, status_of_method};
 use call_model::{MemberKind, Status};
 use descriptor_check::File;
 use lib_model::MethodFlags;
@@ -69,9 +69,22 @@ impl<'a> MethodView<'a> {
 
     /// The number of its parameters, a return value among them.
     pub fn param_count(&self) -> u32
-        ensures { result ≡ length self.now.method.params }
+        ensures count { result ≡ length self.now.method.params }
+        ensures few { result ≤ 255 }
     {
         u32::from(params_of_method(&self.file, self.at).count)
+    }
+
+    /// How many arguments its prototype has, without the object's address: one for each parameter, and those that are
+    /// added. A method that may not be called has none.
+    pub fn positions(&self) -> u32
+        ensures length { result ≡ length (slot_of self.now.method).proto }
+        ensures few { result ≤ 257 }
+    {
+        match self.status() {
+            Status::Callable => self.param_count() + added_arguments(self.flags()),
+            Status::Hidden | Status::NotXpcom | Status::Opaque => 0,
+        }
     }
 
     /// Its parameters in order, a return value among them.

@@ -1,7 +1,7 @@
-ghost use Rattle.std.specs.Prelude.{◌≡◌, None};
+ghost use Rattle.std.specs.Prelude.{◌≡◌, ◌+◌, ◌≤◌, None, if◌then◌else◌};
 ghost use Rattle.std.specs.List.{list_any};
 ghost use Rattle.lib_model.specs.declared.param_types.Param.{Param};
-ghost use Rattle.lib_model.specs.Table.{is_opaque, is_opaque_tag, is_string_class, status_of};
+ghost use Rattle.lib_model.specs.Table.{has, is_opaque, is_opaque_tag, is_string_class, status_of};
 ghost use Rattle.typelib_faults.specs.Faults.{method_fault, param_fault, param_next};
 ghost use Rattle.typelib_faults.specs.Places.{method_at, param_at, param_end};
 ghost use Rattle.typelib_faults.specs.Walk.{values, walk};
@@ -72,4 +72,14 @@ pub(crate) fn status_of_method(file: &File<'_>, at: Cursor) -> Status
     } else {
         Status::Callable
     }
+}
+
+/// How many arguments the flags of a method add to its prototype: a context, and the number of optional arguments.
+pub(crate) fn added_arguments(flags: MethodFlags) -> u32
+    ensures added { result ≡ (if has flags.bits 2 then 1 else 0) + (if has flags.bits 4 then 1 else 0) }
+    ensures few { result ≤ 2 }
+{
+    let context = flags.bits & MethodFlags::IMPLICIT_JSCONTEXT.bits != 0;
+    let count = flags.bits & MethodFlags::OPTIONAL_ARGC.bits != 0;
+    u32::from(context) + u32::from(count)
 }

@@ -56,6 +56,7 @@ fn is_the_method(view: MethodView<'_>) -> bool {
         && view.flags().bits == 0
         && view.status() == Status::Callable
         && view.param_count() == 1
+        && view.positions() == 1
 }
 
 #[test]

@@ -5,8 +5,8 @@ use Rattle.typelib_faults.proofs.WalkFacts.{length_values}
 use Rattle.descriptor_reader.specs.Views.{MethodOf}
 use Rattle.descriptor_reader.proofs.method_views.MethodView.param_count.Goals as goal
 
-pub returns : goal.returns
-returns c =
+pub returns-clause-count : goal.returns-clause-count
+returns-clause-count c =
     let x = c.self.inside.file.bytes.now in
     let p = c.params_of_method.result in
     c.from.ensures
