@@ -79,7 +79,7 @@ with_value (Some value) numbers rest = value ∷ rest numbers
 with_value None [] rest = 0 ∷ rest []
 with_value None (n ∷ numbers) rest = cast_unsigned w64 n ∷ rest numbers
 
--- the values of a prototype: for its parameters the numbers in order, modulo 2^64, and for what is added what it gets
+-- the values of a prototype: for its parameters the numbers in order, in two's complement, and for what is added what it gets
 abbrev pub values_of : (given : ℕ) → List ProtoArg → List ℤ → List ℕ
 values_of given [] numbers = []
 values_of given (a ∷ proto) numbers = with_value (added_value given a.note) numbers (values_of given proto)
