@@ -1,4 +1,5 @@
 pub mod Conforming
 pub mod Counted
+pub mod Lineages
 pub mod Patterns
 pub mod PlacedFrames
