@@ -1,10 +1,11 @@
-//! What a typelib says, as plain data: its interfaces with their methods, parameters, types and constants. No offset
-//! and no place of a file occurs in it.
+//! What a typelib says, as plain data: its interfaces with their methods, parameters, types and
+//! constants. No offset and no place of a file occurs in it.
 #![tactic(auto)]
 
 mod contents;
 mod flags;
 mod param_types;
+pub mod tags;
 
 pub use contents::{Body, Constant, Iface, Library, Method};
 pub use flags::{IfaceFlags, MethodFlags, ParamFlags};
