@@ -1,3 +1,4 @@
 pub mod Gains
 pub mod Lengths
+pub mod LittleEndian
 pub mod Naturals

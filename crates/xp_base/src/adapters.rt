@@ -2,6 +2,7 @@ ghost use Rattle.std.specs.Prelude.{ℕ, ◌≡◌, ◌≤◌, List, length, tak
 ghost use Rattle.xp_base.specs.Causes.{Rose, SinkCause};
 
 use crate::byte_list::Bytes;
+use crate::limits::MAX_TYPELIB;
 use crate::sinks::{Sink, SinkError};
 use crate::sources::{Fetched, Source, SourceError};
 use std::alloc::Global;
@@ -50,7 +51,7 @@ fn read_file<R: Files>(
     name: &[u8],
     limit: usize,
 ) -> Result<Fetched, SourceError>
-    requires { limit ≤ 8388608 }
+    requires { limit ≤ MAX_TYPELIB }
 {
     let Ok(path) = str::from_utf8(name) else {
         return Err(SourceError::Failed);

@@ -46,7 +46,17 @@ impl Sink for CalmSink {
 
     ghost faults = { λ _. 0 };
 
-    fn put(&mut self, piece: &[u8]) -> Result<usize, SinkError> {
+    /// Takes the whole piece. The one error is want of memory.
+    fn put(&mut self, piece: &[u8]) -> Result<usize, SinkError>
+        ensures within { IfOk result (λ n. n ≤ length piece.now) }
+        ensures progress { IfOk result (λ n. 0 < length piece.now → 0 < n) }
+        ensures gained { IfOk result (λ n. Gained (Some self.old) (Some self.new) (take n piece.now)) }
+        ensures err { OnErr result (GainedNothing (Some self.old) (Some self.new)) }
+        ensures cause { SinkCause 0 0 result }
+        ensures never_falls { 0 ≤ 0 }
+
+        ensures whole { IfOk result (λ n. n ≡ length piece.now) }
+    {
         self.text.append(piece)?;
         Ok(piece.len())
     }

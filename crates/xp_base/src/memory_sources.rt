@@ -8,6 +8,7 @@ ghost use Rattle.xp_base.specs.MemoryObjects.{raised};
 
 use crate::byte_list::Bytes;
 use crate::errors::Memory;
+use crate::limits::MAX_TYPELIB;
 use crate::named_file::NamedFile;
 use crate::sources::{Fetched, Source, SourceError};
 use crate::value_list::List;
@@ -121,7 +122,7 @@ impl Source for MemSource {
     ghost faults = { λ s. s.faults };
 
     fn fetch(&mut self, alloc: Global, name: &[u8], limit: usize) -> Result<Fetched, SourceError>
-        requires { limit ≤ 8388608 }
+        requires { limit ≤ MAX_TYPELIB }
         ensures content { (told : Files) → Some self.old.files ≡ Some told → IfOk result (λ found. found ≡ fetched (file_in told name.now) limit) }
         ensures same_files { Some self.new.files ≡ Some self.old.files }
         ensures cause { SourceCause self.old.faults self.new.faults result }

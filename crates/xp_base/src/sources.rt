@@ -5,11 +5,9 @@ ghost use Rattle.xp_base.specs.declared.sources.SourceError.TheVariants.{Memory 
 
 use crate::byte_list::Bytes;
 use crate::errors;
+use crate::limits::MAX_TYPELIB;
 use std::alloc::Global;
 use thiserror::Error;
-
-/// The most bytes that a fetch may be asked for: the limit on a typelib, the largest input.
-pub const MAX_FETCH: usize = 8_388_608;
 
 /// What a fetch finds under a name.
 #[derive(Debug, Drop)]
@@ -55,7 +53,7 @@ pub trait Source {
     /// `Failed` comes only where the count of faults rose in the call, and `Memory` is free; on every answer the files
     /// are as before.
     fn fetch(&mut self, alloc: Global, name: &[u8], limit: usize) -> Result<Fetched, SourceError>
-        requires { limit ≤ 8388608 }
+        requires { limit ≤ MAX_TYPELIB }
         ensures content { (told : Files) → files self.old ≡ Some told → IfOk result (λ found. found ≡ fetched (file_in told name.now) limit) }
         ensures same_files { files self.new ≡ files self.old }
         ensures cause { SourceCause (faults self.old) (faults self.new) result }
