@@ -1,6 +1,6 @@
 -- The table of a library: what its interfaces and methods are to a caller. It is read off the flags
 -- and tags of the XPCOM typelib format.
-use Rattle.std.specs.Prelude.{ℕ, zero, suc, ◌+◌, ◌==◌, ◌&&◌, ◌||◌, not, Bool, false, nat_lt, List, [], ◌∷◌, ◌++◌, length, map, take, drop, Option, Some, None, is_some, if◌then◌else◌}
+use Rattle.std.specs.Prelude.{◌≡◌, ◌<◌, option_map, slice_get, ℕ, zero, suc, ◌+◌, ◌==◌, ◌&&◌, ◌||◌, not, Bool, false, nat_lt, List, [], ◌∷◌, ◌++◌, length, map, take, drop, Option, Some, None, is_some, if◌then◌else◌}
 use Rattle.std.specs.List.{list_any, slice_index_or}
 use Rattle.std.specs.Int.RustNames.{bit_and}
 use Rattle.call_model.specs.declared.ctypes.CType.{CType}
@@ -170,6 +170,13 @@ unfoldable pub proto_of : Method → List ProtoArg
 proto_of m =
     first_args m ++ (map (arg_of m) (take (written_count m.params) m.params)
     ++ (middle_args m ++ map (arg_of m) (drop (written_count m.params) m.params)))
+
+-- at the position of a parameter stands its argument, and no such position lies past the prototype's
+-- end
+pub record HasPositions (m : Method) : Type 0 where
+  pub argument : (k : ℕ)
+      → slice_get (proto_of m) (position_in m k) ≡ option_map (arg_of m) (slice_get m.params k)
+  pub inside : (k : ℕ) → k < length m.params → position_in m k < length (proto_of m)
 
 -- ---- tables
 
