@@ -35,6 +35,17 @@ written_few [] = omega arith
 written_few (p ∷ []) = one_or_none (gives_value p)
 written_few (p ∷ q ∷ ps) = omega (arith, written_few (q ∷ ps))
 
+written_behind : (ps : List Param) (p : Param)
+    → written_count (ps ++ p ∷ []) ≡ length ps + (if gives_value p then 0 else 1)
+written_behind [] p = sym (zero-add (if gives_value p then 0 else 1))
+written_behind (q ∷ []) p = omega (arith, zero-add (if gives_value p then 0 else 1))
+written_behind (q ∷ r ∷ ps) p = omega (arith, written_behind (r ∷ ps) p)
+
+-- all but the last, where that gives the method's value, else all
+pub written_last : (ps rest : List Param) (p : Param) → ps ≡ rest ++ p ∷ []
+    → written_count ps ≡ length rest + (if gives_value p then 0 else 1)
+written_last ps rest p whole = ap written_count whole ∙ written_behind rest p
+
 -- ---- four lists in a row, the second and the last of which are a list in two parts
 
 module _ {A B : Type 0} (f : A → B) (first middle : List B) (ps : List A) (w : ℕ) (few : w ≤ length ps) where

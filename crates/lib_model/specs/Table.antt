@@ -21,6 +21,7 @@ use Rattle.lib_model.specs.declared.contents.Library.{Library}
 use Rattle.lib_model.specs.declared.contents.Iface.{Iface}
 use Rattle.lib_model.specs.declared.contents.Body.{Body}
 use Rattle.lib_model.specs.declared.contents.Method.{Method}
+use Rattle.lib_model.specs.declared.flags.MethodFlags.{MethodFlags}
 use Rattle.lib_model.specs.declared.param_types.Param.{Param}
 use Rattle.lib_model.specs.declared.param_types.XType.{XType}
 use Rattle.lib_model.specs.declared.param_types.XType.TheVariants as types
@@ -61,11 +62,15 @@ is_string_class tag =
 
 -- ---- members
 
-abbrev pub kind_of : Method → MemberKind
-kind_of m =
-    if has m.flags.bits GETTER.bits then kind.Get
-    else if has m.flags.bits SETTER.bits then kind.Set
+-- what the flags of a method say that its slot is
+abbrev pub kind_of_flags : MethodFlags → MemberKind
+kind_of_flags flags =
+    if has flags.bits GETTER.bits then kind.Get
+    else if has flags.bits SETTER.bits then kind.Set
     else kind.Plain
+
+abbrev pub kind_of : Method → MemberKind
+kind_of m = kind_of_flags m.flags
 
 -- void, which stands for a native type, and jsval
 abbrev pub is_opaque_tag : ℕ → Bool
