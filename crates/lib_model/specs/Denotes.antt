@@ -1,6 +1,7 @@
--- Which bytes denote a library, in the XPCOM typelib format: at which places what stands. All numbers are big-endian. Offsets
--- into the pool count its bytes from 1, and 0 is none. Parts of the pool may stand in any order, be shared or leave gaps.
-use Rattle.std.specs.Prelude.{◌≡◌, ◌⊎◌, ℕ, zero, suc, ◌+◌, ◌-◌, ◌*◌, ◌%◌, ◌<◌, ◌≤◌, ℤ, pos, List, [], ◌∷◌, length, take, drop, slice_index, Option, Some, None}
+-- Which bytes denote a library, in the XPCOM typelib format: at which places what stands. All
+-- numbers are big-endian. Offsets into the pool count its bytes from 1, and 0 is none. Parts of the
+-- pool may stand in any order, be shared or leave gaps.
+use Rattle.std.specs.Prelude.{◌≡◌, ◌⊎◌, ℕ, zero, suc, ◌+◌, ◌-◌, ◌%◌, ◌<◌, ◌≤◌, ℤ, pos, List, [], ◌∷◌, length, take, drop, slice_index, Option, Some, None}
 use Rattle.std.specs.Int.{w16, w32, from_be_bytes, cast_signed}
 use Rattle.std.specs.Int.RustNames.{bit_and}
 use Rattle.xp_base.specs.declared.kinds.ConstKind.{ConstKind}
@@ -15,6 +16,7 @@ use Rattle.lib_model.specs.declared.param_types.XType.{XType}
 use Rattle.lib_model.specs.declared.param_types.XType.TheVariants as types
 use Rattle.lib_model.specs.declared.param_types.Elem.{Elem}
 use Rattle.lib_model.specs.declared.param_types.Elem.TheVariants as elems
+use Rattle.lib_model.specs.declared.tags.TheConstants as tags
 use Rattle.lib_model.specs.Emit.{kind_tag, magic}
 use Rattle.lib_model.specs.Valid.{IsPlainTag, IsValid, iface_bits, method_bits, param_bits}
 
@@ -28,7 +30,9 @@ abbrev pub half_at : List ℕ → ℕ → ℕ
 half_at x p = from_be_bytes w16 (slice_index x p ∷ slice_index x (p + 1) ∷ [])
 
 abbrev pub word_at : List ℕ → ℕ → ℕ
-word_at x p = from_be_bytes w32 (slice_index x p ∷ slice_index x (p + 1) ∷ slice_index x (p + 2) ∷ slice_index x (p + 3) ∷ [])
+word_at x p =
+    from_be_bytes w32
+    (slice_index x p ∷ slice_index x (p + 1) ∷ slice_index x (p + 2) ∷ slice_index x (p + 3) ∷ [])
 
 -- at place p stands this number, in one, two or four bytes
 abbrev pub ByteStands : List ℕ → ℕ → ℕ → Type 0
@@ -61,19 +65,30 @@ TagStands x p tag = (p + 1 ≤ length x) × (tag_at x p ≡ tag)
 -- from p to q stands an element's type, and a type
 abbrev pub ElemStands : List ℕ → ℕ → Elem → ℕ → Type 0
 ElemStands x p (elems.Plain tag) q = TagStands x p tag × (q ≡ p + 1)
-ElemStands x p (elems.Iface number) q = TagStands x p 18 × (HalfStands x (p + 1) number × (q ≡ p + 3))
-ElemStands x p (elems.IidIs param) q = TagStands x p 19 × (ByteStands x (p + 1) param × (q ≡ p + 2))
+ElemStands x p (elems.Iface number) q =
+    TagStands x p tags.INTERFACE × (HalfStands x (p + 1) number × (q ≡ p + 3))
+ElemStands x p (elems.IidIs param) q =
+    TagStands x p tags.INTERFACE_IS × (ByteStands x (p + 1) param × (q ≡ p + 2))
 
 abbrev pub TypeStands : List ℕ → ℕ → XType → ℕ → Type 0
 TypeStands x p (types.Plain tag) q = TagStands x p tag × (q ≡ p + 1)
-TypeStands x p (types.Iface number) q = TagStands x p 18 × (HalfStands x (p + 1) number × (q ≡ p + 3))
-TypeStands x p (types.IidIs param) q = TagStands x p 19 × (ByteStands x (p + 1) param × (q ≡ p + 2))
-TypeStands x p (types.Array size len elem) q = TagStands x p 20 × (ByteStands x (p + 1) size × (ByteStands x (p + 2) len × ElemStands x (p + 3) elem q))
-TypeStands x p (types.SizedString size len) q = TagStands x p 21 × (ByteStands x (p + 1) size × (ByteStands x (p + 2) len × (q ≡ p + 3)))
-TypeStands x p (types.SizedWString size len) q = TagStands x p 22 × (ByteStands x (p + 1) size × (ByteStands x (p + 2) len × (q ≡ p + 3)))
+TypeStands x p (types.Iface number) q =
+    TagStands x p tags.INTERFACE × (HalfStands x (p + 1) number × (q ≡ p + 3))
+TypeStands x p (types.IidIs param) q =
+    TagStands x p tags.INTERFACE_IS × (ByteStands x (p + 1) param × (q ≡ p + 2))
+TypeStands x p (types.Array size len elem) q =
+    TagStands x p tags.ARRAY × (ByteStands x (p + 1) size × (ByteStands x (p + 2) len
+    × ElemStands x (p + 3) elem q))
+TypeStands x p (types.SizedString size len) q =
+    TagStands x p tags.SIZED_STRING × (ByteStands x (p + 1) size × (ByteStands x (p + 2) len
+    × (q ≡ p + 3)))
+TypeStands x p (types.SizedWString size len) q =
+    TagStands x p tags.SIZED_WSTRING × (ByteStands x (p + 1) size × (ByteStands x (p + 2) len
+    × (q ≡ p + 3)))
 
 abbrev pub ParamStands : List ℕ → ℕ → Param → ℕ → Type 0
-ParamStands x p param q = FlagsStand x p param_bits param.flags.bits × TypeStands x (p + 1) param.ty q
+ParamStands x p param q =
+    FlagsStand x p param_bits param.flags.bits × TypeStands x (p + 1) param.ty q
 
 -- a type of known form, whatever its numbers
 abbrev pub HasElemForm : Elem → Type 0
@@ -125,7 +140,8 @@ NamespaceStands x p (Some name) = NameStands x p name
 
 -- ---- members
 
--- from p to q stands a method: its flags, the offset of its name, the number of its parameters, these, and a result parameter
+-- from p to q stands a method: its flags, the offset of its name, the number of its parameters,
+-- these, and a result parameter
 pub record MethodStands (x : List ℕ) (p : ℕ) (m : Method) (q : ℕ) : Type 0 where
   pub flags : FlagsStand x p method_bits m.flags.bits
   pub name : NameStands x (p + 1) m.name
@@ -157,8 +173,8 @@ pub record ConstantStands (x : List ℕ) (p : ℕ) (c : Constant) (q : ℕ) : Ty
 
 -- ---- interfaces
 
--- at place p stands an interface's descriptor: the parent's number, the number of methods, these, the number of constants, these,
--- and the flags
+-- at place p stands an interface's descriptor: the parent's number, the number of methods, these,
+-- the number of constants, these, and the flags
 pub record DescriptorStands (x : List ℕ) (p : ℕ) (b : Body) : Type 0 where
   pub parent : HalfStands x p b.parent
   pub method_count : HalfStands x (p + 2) (length b.methods)
@@ -181,7 +197,8 @@ abbrev pub BodyStands : List ℕ → ℕ → Option Body → Type 0
 BodyStands x p None = WordStands x p 0
 BodyStands x p (Some b) = OffsetOfBodyStands x p b
 
--- from p to q stands an interface's entry in the directory: its identifier and the offsets of its name, namespace and descriptor
+-- from p to q stands an interface's entry in the directory: its identifier and the offsets of its
+-- name, namespace and descriptor
 pub record EntryStands (x : List ℕ) (p : ℕ) (i : Iface) (q : ℕ) : Type 0 where
   pub iid : take 16 (drop p x) ≡ i.iid
   pub name : NameStands x (p + 16) i.name
@@ -191,14 +208,15 @@ pub record EntryStands (x : List ℕ) (p : ℕ) (i : Iface) (q : ℕ) : Type 0 w
 
 -- ---- annotations
 
--- From p to q stands an annotation: a byte whose low seven bits are 0, or one where they are 1 and two strings, each with its
--- length before it. It may end where the file ends.
+-- From p to q stands an annotation: a byte whose low seven bits are 0, or one where they are 1 and
+-- two strings, each with its length before it. It may end where the file ends.
 abbrev pub EmptyStands : List ℕ → ℕ → ℕ → Type 0
 EmptyStands x p q = (byte_at x p % 128 ≡ 0) × (q ≡ p + 1)
 
 abbrev pub PrivateStands : List ℕ → ℕ → ℕ → Type 0
 PrivateStands x p q =
-    (byte_at x p % 128 ≡ 1) × (q ≡ p + 5 + half_at x (p + 1) + half_at x (p + 3 + half_at x (p + 1)))
+    (byte_at x p % 128 ≡ 1)
+    × (q ≡ p + 5 + half_at x (p + 1) + half_at x (p + 3 + half_at x (p + 1)))
 
 pub record AnnotationStands (x : List ℕ) (p q : ℕ) : Type 0 where
   pub form : EmptyStands x p q ⊎ PrivateStands x p q
@@ -207,11 +225,13 @@ pub record AnnotationStands (x : List ℕ) (p q : ℕ) : Type 0 where
 -- from p on stand n annotations and the last one, which has its high bit set as none before it has
 abbrev pub AnnotationsStand : List ℕ → ℕ → ℕ → Type 0
 AnnotationsStand x p zero = (128 ≤ byte_at x p) × ((q : ℕ) × AnnotationStands x p q)
-AnnotationsStand x p (suc n) = (byte_at x p < 128) × ((q : ℕ) × (AnnotationStands x p q × AnnotationsStand x q n))
+AnnotationsStand x p (suc n) =
+    (byte_at x p < 128) × ((q : ℕ) × (AnnotationStands x p q × AnnotationsStand x q n))
 
 -- ---- files
 
--- The bytes denote the library. The directory's place is counted from 1; it is free where there are no interfaces.
+-- The bytes denote the library. The directory's place is counted from 1; it is free where there are
+-- no interfaces.
 pub record Denotes (x : List ℕ) (lib : Library) : Type 0 where
   pub valid : IsValid lib
   pub long : 32 ≤ length x

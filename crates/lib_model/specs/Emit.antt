@@ -1,5 +1,6 @@
--- The bytes that are emitted for a library: a header of 32 bytes, one empty annotation, the directory and the pool, as the
--- XPCOM typelib format has them. All numbers are big-endian. An offset into the pool counts its bytes from 1, and 0 is none.
+-- The bytes that are emitted for a library: a header of 32 bytes, one empty annotation, the
+-- directory and the pool, as the XPCOM typelib format has them. All numbers are big-endian. An
+-- offset into the pool counts its bytes from 1, and 0 is none.
 use Rattle.std.specs.Prelude.{ℕ, ◌+◌, ◌*◌, nat_le, ℤ, List, [], ◌∷◌, ◌++◌, length, Option, Some, None, sum_by, if◌then◌else◌}
 use Rattle.std.specs.Int.{w16, w32, to_be_bytes, cast_unsigned}
 use Rattle.std.specs.List.{flat_map}
@@ -15,6 +16,7 @@ use Rattle.lib_model.specs.declared.param_types.XType.{XType}
 use Rattle.lib_model.specs.declared.param_types.XType.TheVariants as types
 use Rattle.lib_model.specs.declared.param_types.Elem.{Elem}
 use Rattle.lib_model.specs.declared.param_types.Elem.TheVariants as elems
+use Rattle.lib_model.specs.declared.tags.TheConstants as tags
 
 -- a number in two bytes, and in four
 unfoldable pub two_bytes : ℕ → List ℕ
@@ -23,37 +25,38 @@ two_bytes n = to_be_bytes w16 n
 unfoldable pub four_bytes : ℕ → List ℕ
 four_bytes n = to_be_bytes w32 n
 
--- The texts of items, one after the other. The text of an item knows the offset at which the item's part of the pool
--- begins; the part of the first begins at k, and an item's part has `size` bytes.
+-- The texts of items, one after the other. The text of an item knows the offset at which the item's
+-- part of the pool begins; the part of the first begins at k, and an item's part has `size` bytes.
 abbrev pub placed : {A : Type 0} → (ℕ → A → List ℕ) → (A → ℕ) → ℕ → List A → List ℕ
 placed text size k [] = []
 placed text size k (x ∷ xs) = text k x ++ placed text size (k + size x) xs
 
 -- ---- types and parameters
 
--- a type's byte is its tag, and a tag above 12 is that of a pointer, with the bit 80 (hexadecimal)
+-- a type's byte is its tag, and a tag behind the characters' is that of a pointer, with the bit 80
+-- (hexadecimal)
 abbrev pub tag_byte : ℕ → ℕ
-tag_byte tag = if nat_le tag 12 then tag else tag + 128
+tag_byte tag = if nat_le tag tags.WCHAR then tag else tag + 128
 
 unfoldable pub elem_text : Elem → List ℕ
 elem_text (elems.Plain tag) = tag_byte tag ∷ []
-elem_text (elems.Iface number) = tag_byte 18 ∷ two_bytes number
-elem_text (elems.IidIs param) = tag_byte 19 ∷ param ∷ []
+elem_text (elems.Iface number) = tag_byte tags.INTERFACE ∷ two_bytes number
+elem_text (elems.IidIs param) = tag_byte tags.INTERFACE_IS ∷ param ∷ []
 
 unfoldable pub type_text : XType → List ℕ
 type_text (types.Plain tag) = tag_byte tag ∷ []
-type_text (types.Iface number) = tag_byte 18 ∷ two_bytes number
-type_text (types.IidIs param) = tag_byte 19 ∷ param ∷ []
-type_text (types.Array size len elem) = tag_byte 20 ∷ size ∷ len ∷ elem_text elem
-type_text (types.SizedString size len) = tag_byte 21 ∷ size ∷ len ∷ []
-type_text (types.SizedWString size len) = tag_byte 22 ∷ size ∷ len ∷ []
+type_text (types.Iface number) = tag_byte tags.INTERFACE ∷ two_bytes number
+type_text (types.IidIs param) = tag_byte tags.INTERFACE_IS ∷ param ∷ []
+type_text (types.Array size len elem) = tag_byte tags.ARRAY ∷ size ∷ len ∷ elem_text elem
+type_text (types.SizedString size len) = tag_byte tags.SIZED_STRING ∷ size ∷ len ∷ []
+type_text (types.SizedWString size len) = tag_byte tags.SIZED_WSTRING ∷ size ∷ len ∷ []
 
 unfoldable pub param_text : Param → List ℕ
 param_text p = p.flags.bits ∷ type_text p.ty
 
--- the result parameter of every method: no flags, and the type uint32 (tag 6)
+-- the result parameter of every method: no flags, and the type uint32
 abbrev pub result_text : List ℕ
-result_text = 0 ∷ 6 ∷ []
+result_text = 0 ∷ tags.UINT32 ∷ []
 
 -- ---- names
 
@@ -78,17 +81,19 @@ constant_names constants = flat_map (λ c. name_text c.name) constants
 
 -- a method whose name stands at offset k
 unfoldable pub method_text : ℕ → Method → List ℕ
-method_text k m = m.flags.bits ∷ (four_bytes k ++ (length m.params ∷ (flat_map param_text m.params ++ result_text)))
+method_text k m =
+    m.flags.bits ∷ (four_bytes k
+    ++ (length m.params ∷ (flat_map param_text m.params ++ result_text)))
 
 abbrev pub method_size : Method → ℕ
 method_size m = name_size m.name
 
 -- the tag of a constant's type, and its value in two's complement
 abbrev pub kind_tag : ConstKind → ℕ
-kind_tag kinds.I16 = 1
-kind_tag kinds.I32 = 2
-kind_tag kinds.U16 = 5
-kind_tag kinds.U32 = 6
+kind_tag kinds.I16 = tags.INT16
+kind_tag kinds.I32 = tags.INT32
+kind_tag kinds.U16 = tags.UINT16
+kind_tag kinds.U32 = tags.UINT32
 
 abbrev pub value_text : ConstKind → ℤ → List ℕ
 value_text kinds.I16 value = two_bytes (cast_unsigned w16 value)
@@ -114,11 +119,12 @@ unfoldable pub descriptor_text : ℕ → Body → List ℕ
 descriptor_text k b =
     two_bytes b.parent
     ++ (two_bytes (length b.methods) ++ (placed method_text method_size k b.methods
-    ++ (two_bytes (length b.constants) ++ (placed constant_text constant_size (k + sum_by method_size b.methods) b.constants
+    ++ (two_bytes (length b.constants)
+    ++ (placed constant_text constant_size (k + sum_by method_size b.methods) b.constants
     ++ (b.flags.bits ∷ [])))))
 
--- an interface's part of the pool, which begins at offset k: its name, its namespace, and where it is resolved the names of its
--- members and its descriptor
+-- an interface's part of the pool, which begins at offset k: its name, its namespace, and where it
+-- is resolved the names of its members and its descriptor
 abbrev pub own_names : Iface → List ℕ
 own_names i = name_text i.name ++ namespace_text i.namespace
 
@@ -141,7 +147,8 @@ abbrev pub offset_if : {A : Type 0} → Option A → ℕ → ℕ
 offset_if None k = 0
 offset_if (Some x) k = k
 
--- where the namespace and the descriptor of an interface stand, whose part of the pool begins at offset k
+-- where the namespace and the descriptor of an interface stand, whose part of the pool begins at
+-- offset k
 abbrev pub namespace_offset : ℕ → Iface → ℕ
 namespace_offset k i = offset_if i.namespace (k + name_size i.name)
 
@@ -150,7 +157,9 @@ descriptor_offset k i = offset_if i.body (k + length (own_names i) + length (bod
 
 -- the entry in the directory of an interface whose part of the pool begins at offset k
 unfoldable pub entry_text : ℕ → Iface → List ℕ
-entry_text k i = i.iid ++ (four_bytes k ++ (four_bytes (namespace_offset k i) ++ four_bytes (descriptor_offset k i)))
+entry_text k i =
+    i.iid ++ (four_bytes k
+    ++ (four_bytes (namespace_offset k i) ++ four_bytes (descriptor_offset k i)))
 
 -- ---- the file
 
@@ -160,7 +169,8 @@ directory_text ifaces = placed entry_text part_size 1 ifaces
 unfoldable pub pool_text : List Iface → List ℕ
 pool_text ifaces = placed part_text part_size 1 ifaces
 
--- where the directory and the pool begin, counted from 0: behind 32 bytes of header and 4 of annotation, an entry has 28 bytes
+-- where the directory and the pool begin, counted from 0: behind 32 bytes of header and 4 of
+-- annotation; an entry has 28 bytes
 abbrev pub directory_place : ℕ
 directory_place = 36
 
@@ -171,12 +181,13 @@ pool_place count = directory_place + 28 * count
 abbrev pub magic : List ℕ
 magic = 88 ∷ 80 ∷ 67 ∷ 79 ∷ 77 ∷ 10 ∷ 84 ∷ 121 ∷ 112 ∷ 101 ∷ 76 ∷ 105 ∷ 98 ∷ 13 ∷ 10 ∷ 26 ∷ []
 
--- the header for so many interfaces and so many bytes of pool: the magic, version 1.2, the number of interfaces, the file's length,
--- the directory's place counted from 1, and the pool's place
+-- the header for so many interfaces and so many bytes of pool: the magic, version 1.2, the number
+-- of interfaces, the file's length, the directory's place counted from 1, and the pool's place
 unfoldable pub header_text : ℕ → ℕ → List ℕ
 header_text count pool_len =
     magic ++ (1 ∷ 2 ∷ (two_bytes count
-    ++ (four_bytes (pool_place count + pool_len) ++ (four_bytes (directory_place + 1) ++ four_bytes (pool_place count)))))
+    ++ (four_bytes (pool_place count + pool_len)
+    ++ (four_bytes (directory_place + 1) ++ four_bytes (pool_place count)))))
 
 -- the one annotation, which is the last and empty, and three bytes that fill up
 abbrev pub annotation_text : List ℕ

@@ -1,4 +1,5 @@
--- What makes a library valid: the rules of the XPCOM typelib format that speak of no place in a file.
+-- What makes a library valid: the rules of the XPCOM typelib format that speak of no place in a
+-- file.
 use Rattle.std.specs.Prelude.{◌≡◌, ◌⊎◌, ℕ, zero, suc, ◌+◌, ◌<◌, ◌≤◌, ℤ, List, [], ◌∷◌, length, slice_get, Option, Some, None, IfSome, IsSome, IsSomeAnd, option_and_then, sum_by, All}
 use Rattle.std.specs.Prelude.{FitsSigned}
 use Rattle.std.specs.Int.{w16, w32, FitsUnsigned}
@@ -15,6 +16,10 @@ use Rattle.lib_model.specs.declared.param_types.XType.{XType}
 use Rattle.lib_model.specs.declared.param_types.XType.TheVariants as types
 use Rattle.lib_model.specs.declared.param_types.Elem.{Elem}
 use Rattle.lib_model.specs.declared.param_types.Elem.TheVariants as elems
+use Rattle.lib_model.specs.declared.flags.TheConstants.IfaceFlags as iface_flags
+use Rattle.lib_model.specs.declared.flags.TheConstants.MethodFlags as method_flags
+use Rattle.lib_model.specs.declared.flags.TheConstants.ParamFlags as param_flags
+use Rattle.lib_model.specs.declared.tags.TheConstants as tags
 
 -- ---- names and flags
 
@@ -40,42 +45,48 @@ pub record AreKnownBits (known bits : ℕ) : Type 0 where
 
 -- scriptable, function, builtinclass
 abbrev pub iface_bits : ℕ
-iface_bits = 128 + 64 + 32
+iface_bits = iface_flags.KNOWN
 
 -- getter, setter, notxpcom, constructor, hidden, optional_argc, implicit_jscontext
 abbrev pub method_bits : ℕ
-method_bits = 128 + 64 + 32 + 16 + 8 + 4 + 2
+method_bits = method_flags.KNOWN
 
 -- in, out, retval, shared, dipper, optional
 abbrev pub param_bits : ℕ
-param_bits = 128 + 64 + 32 + 16 + 8 + 4
+param_bits = param_flags.KNOWN
 
 -- ---- types
 
--- the tag of a type
+-- the tag of a type, and of an element's type
 abbrev pub tag_of : XType → ℕ
 tag_of (types.Plain tag) = tag
-tag_of (types.Iface number) = 18
-tag_of (types.IidIs param) = 19
-tag_of (types.Array size len elem) = 20
-tag_of (types.SizedString size len) = 21
-tag_of (types.SizedWString size len) = 22
+tag_of (types.Iface number) = tags.INTERFACE
+tag_of (types.IidIs param) = tags.INTERFACE_IS
+tag_of (types.Array size len elem) = tags.ARRAY
+tag_of (types.SizedString size len) = tags.SIZED_STRING
+tag_of (types.SizedWString size len) = tags.SIZED_WSTRING
+
+abbrev pub tag_of_elem : Elem → ℕ
+tag_of_elem (elems.Plain tag) = tag
+tag_of_elem (elems.Iface number) = tags.INTERFACE
+tag_of_elem (elems.IidIs param) = tags.INTERFACE_IS
 
 -- a tag that stands alone: 0 to 17 or 23 to 26
 abbrev pub IsPlainTag : ℕ → Type 0
-IsPlainTag tag = (tag ≤ 17) ⊎ ((23 ≤ tag) × (tag ≤ 26))
+IsPlainTag tag = (tag ≤ tags.WSTRING) ⊎ ((tags.UTF8STRING ≤ tag) × (tag ≤ tags.JSVAL))
 
 -- the number of one of so many interfaces, counted from 1
 abbrev pub IsIfaceNumber : ℕ → ℕ → Type 0
 IsIfaceNumber count number = (0 < number) × (number ≤ count)
 
--- the number of a parameter whose type is an integer (tags 0 to 7), which can tell a size or a length
+-- the number of a parameter whose type is an integer (tags 0 to 7), which can tell a size or a
+-- length
 abbrev pub IsCountParam : List Param → ℕ → Type 0
-IsCountParam params number = IsSomeAnd (slice_get params number) (λ p. tag_of p.ty ≤ 7)
+IsCountParam params number = IsSomeAnd (slice_get params number) (λ p. tag_of p.ty ≤ tags.UINT64)
 
--- the number of a parameter whose type is nsIID (tag 14)
+-- the number of a parameter whose type is nsIID
 abbrev pub IsIidParam : List Param → ℕ → Type 0
-IsIidParam params number = IsSomeAnd (slice_get params number) (λ p. tag_of p.ty ≡ 14)
+IsIidParam params number = IsSomeAnd (slice_get params number) (λ p. tag_of p.ty ≡ tags.NSID)
 
 -- an element's type, in a method with these parameters, among so many interfaces
 abbrev pub IsElem : ℕ → List Param → Elem → Type 0
@@ -87,9 +98,12 @@ abbrev pub IsType : ℕ → List Param → XType → Type 0
 IsType count params (types.Plain tag) = IsPlainTag tag
 IsType count params (types.Iface number) = IsIfaceNumber count number
 IsType count params (types.IidIs param) = IsIidParam params param
-IsType count params (types.Array size len elem) = IsCountParam params size × IsCountParam params len × IsElem count params elem
-IsType count params (types.SizedString size len) = IsCountParam params size × IsCountParam params len
-IsType count params (types.SizedWString size len) = IsCountParam params size × IsCountParam params len
+IsType count params (types.Array size len elem) =
+    IsCountParam params size × IsCountParam params len × IsElem count params elem
+IsType count params (types.SizedString size len) =
+    IsCountParam params size × IsCountParam params len
+IsType count params (types.SizedWString size len) =
+    IsCountParam params size × IsCountParam params len
 
 -- ---- members
 
@@ -155,13 +169,15 @@ parent_of ifaces number = parent_in (body_of ifaces number)
 abbrev pub own_slots : List Iface → ℕ → ℕ
 own_slots ifaces number = slots_in (body_of ifaces number)
 
--- the numbers of an interface, of its parent, of that one's parent and so on: the first n of them, or all where they end before
+-- the numbers of an interface, of its parent, of that one's parent and so on: the first n of them,
+-- or all where they end before
 unfoldable pub first_of_chain : List Iface → ℕ → ℕ → List ℕ
 first_of_chain ifaces zero number = []
 first_of_chain ifaces (suc n) zero = []
 first_of_chain ifaces (suc n) (suc k) = suc k ∷ first_of_chain ifaces n (parent_of ifaces (suc k))
 
--- an interface's chain of parents, itself counted; where it has more than 250 interfaces or is cyclic, its first 251
+-- an interface's chain of parents, itself counted; where it has more than 250 interfaces or is
+-- cyclic, its first 251
 abbrev pub chain_of : List Iface → ℕ → List ℕ
 chain_of ifaces number = first_of_chain ifaces 251 number
 

@@ -1,8 +1,10 @@
 ghost use Rattle.std.specs.Prelude.{⊤, [], ◌∷◌, codes};
 
 use bitflags::{Flag, Flags};
+use call_model::MemberKind;
 
-/// What a typelib says of an interface beside its members. The bits are those of the XPCOM typelib format.
+/// What a typelib says of an interface beside its members. The bits are those of the XPCOM
+/// typelib format.
 #[derive(Clone, Copy, PartialEq, Eq, Debug)]
 pub struct IfaceFlags {
     /// The bits, as they stand in a file.
@@ -18,6 +20,9 @@ impl IfaceFlags {
 
     /// Only the program itself implements the interface.
     pub const BUILTINCLASS: IfaceFlags = IfaceFlags { bits: 0x20 };
+
+    /// All bits that are known.
+    pub const KNOWN: u8 = 0x80 | 0x40 | 0x20;
 
     const TABLE: &'static [Flag<IfaceFlags>] = &[
         Flag {
@@ -40,7 +45,10 @@ impl Flags for IfaceFlags {
 
     ghost exact = { ⊤ };
 
-    ghost table = { (codes "SCRIPTABLE", 128) ∷ (codes "FUNCTION", 64) ∷ (codes "BUILTINCLASS", 32) ∷ [] };
+    ghost table = { (codes "SCRIPTABLE", 128)
+        ∷ (codes "FUNCTION", 64)
+        ∷ (codes "BUILTINCLASS", 32)
+        ∷ [] };
 
     ghost set_of = { λ f. f.bits };
 
@@ -57,7 +65,8 @@ impl Flags for IfaceFlags {
     }
 }
 
-/// What a typelib says of a method beside its parameters. The bits are those of the XPCOM typelib format.
+/// What a typelib says of a method beside its parameters. The bits are those of the XPCOM
+/// typelib format.
 #[derive(Clone, Copy, PartialEq, Eq, Debug)]
 pub struct MethodFlags {
     /// The bits, as they stand in a file.
@@ -85,6 +94,25 @@ impl MethodFlags {
 
     /// The method is given the context of the script that calls it.
     pub const IMPLICIT_JSCONTEXT: MethodFlags = MethodFlags { bits: 0x02 };
+
+    /// All bits that are known.
+    pub const KNOWN: u8 = 0x80 | 0x40 | 0x20 | 0x10 | 0x08 | 0x04 | 0x02;
+
+    ghost use Rattle.std.specs.Prelude.{◌≡◌};
+    ghost use Rattle.lib_model.specs.Table.{kind_of_flags};
+
+    /// What the slot of a method with these flags is.
+    pub fn kind(self) -> MemberKind
+        ensures { result ≡ kind_of_flags self }
+    {
+        if self.contains(MethodFlags::GETTER) {
+            MemberKind::Get
+        } else if self.contains(MethodFlags::SETTER) {
+            MemberKind::Set
+        } else {
+            MemberKind::Plain
+        }
+    }
 
     const TABLE: &'static [Flag<MethodFlags>] = &[
         Flag {
@@ -123,7 +151,14 @@ impl Flags for MethodFlags {
 
     ghost exact = { ⊤ };
 
-    ghost table = { (codes "GETTER", 128) ∷ (codes "SETTER", 64) ∷ (codes "NOTXPCOM", 32) ∷ (codes "CONSTRUCTOR", 16) ∷ (codes "HIDDEN", 8) ∷ (codes "OPTIONAL_ARGC", 4) ∷ (codes "IMPLICIT_JSCONTEXT", 2) ∷ [] };
+    ghost table = { (codes "GETTER", 128)
+        ∷ (codes "SETTER", 64)
+        ∷ (codes "NOTXPCOM", 32)
+        ∷ (codes "CONSTRUCTOR", 16)
+        ∷ (codes "HIDDEN", 8)
+        ∷ (codes "OPTIONAL_ARGC", 4)
+        ∷ (codes "IMPLICIT_JSCONTEXT", 2)
+        ∷ [] };
 
     ghost set_of = { λ f. f.bits };
 
@@ -140,7 +175,8 @@ impl Flags for MethodFlags {
     }
 }
 
-/// What a typelib says of a parameter beside its type. The bits are those of the XPCOM typelib format.
+/// What a typelib says of a parameter beside its type. The bits are those of the XPCOM typelib
+/// format.
 #[derive(Clone, Copy, PartialEq, Eq, Debug)]
 pub struct ParamFlags {
     /// The bits, as they stand in a file.
@@ -165,6 +201,9 @@ impl ParamFlags {
 
     /// The argument may be left out.
     pub const OPTIONAL: ParamFlags = ParamFlags { bits: 0x04 };
+
+    /// All bits that are known.
+    pub const KNOWN: u8 = 0x80 | 0x40 | 0x20 | 0x10 | 0x08 | 0x04;
 
     const TABLE: &'static [Flag<ParamFlags>] = &[
         Flag {
@@ -199,7 +238,13 @@ impl Flags for ParamFlags {
 
     ghost exact = { ⊤ };
 
-    ghost table = { (codes "IN", 128) ∷ (codes "OUT", 64) ∷ (codes "RETVAL", 32) ∷ (codes "SHARED", 16) ∷ (codes "DIPPER", 8) ∷ (codes "OPTIONAL", 4) ∷ [] };
+    ghost table = { (codes "IN", 128)
+        ∷ (codes "OUT", 64)
+        ∷ (codes "RETVAL", 32)
+        ∷ (codes "SHARED", 16)
+        ∷ (codes "DIPPER", 8)
+        ∷ (codes "OPTIONAL", 4)
+        ∷ [] };
 
     ghost set_of = { λ f. f.bits };
 
