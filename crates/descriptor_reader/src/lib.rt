@@ -12,6 +12,8 @@ mod method_fields;
 mod method_iter;
 mod method_views;
 mod param_iter;
+mod proto_args;
+mod shapes;
 mod slots;
 mod statuses;
 mod thin;

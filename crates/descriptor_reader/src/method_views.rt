@@ -4,7 +4,8 @@ ghost use Rattle.lib_model.specs.Valid.{IsMethod};
 
 use crate::method_fields::{flags_of_method, kind_of_method, name_of_method, params_of_method};
 use crate::param_iter::ParamIter;
-use crate::statuses::{added_arguments, status_of_method};
+use crate::shapes::shape_of_method;
+use crate::statuses::status_of_method;
 use call_model::{MemberKind, Status};
 use typelib_check::CheckedFile;
 use lib_model::MethodFlags;
@@ -88,7 +89,10 @@ impl<'a> MethodView<'a> {
         ensures few { result ≤ 257 }
     {
         match self.status() {
-            Status::Callable => self.param_count() + added_arguments(self.flags()),
+            Status::Callable => {
+                let shape = shape_of_method(&self.checked.file, self.at);
+                u32::from(shape.first) + self.param_count() + u32::from(shape.middle)
+            }
             Status::Hidden | Status::NotXpcom | Status::Opaque => 0,
         }
     }
