@@ -1,5 +1,5 @@
 -- Where the arguments that are added stand in the prototype of a method.
-use Rattle.std.specs.Prelude.{◌≡◌, ℕ, Bool, true, false, ◌&&◌, not, nat_lt, List, [], ◌∷◌, length, slice_get, Option, Some, None, option_map, if◌then◌else◌}
+use Rattle.std.specs.Prelude.{◌≡◌, ℕ, ◌+◌, ◌-◌, min, Bool, true, false, ◌&&◌, not, nat_lt, List, [], ◌∷◌, length, slice_get, Option, Some, None, option_map, if◌then◌else◌}
 use Rattle.call_model.specs.declared.prototypes.ProtoArg.{ProtoArg}
 use Rattle.call_model.specs.declared.prototypes.Status.{Status}
 use Rattle.call_model.specs.declared.prototypes.Status.TheVariants.{Callable, Hidden, NotXpcom, Opaque}
@@ -38,3 +38,15 @@ abbrev pub position_of_param : Method → ℕ → Option ℕ
 position_of_param m number =
     if is_callable (status_of m) && nat_lt number (length m.params) then Some (position_in m number)
     else None
+
+-- how many parameters have their arguments before a position
+abbrev pub params_before : Shape → ℕ → ℕ
+params_before s position =
+    min (position - s.first) s.written + (position - s.first - s.written - s.middle)
+
+-- what stands at a position is the argument of the next parameter, or one that is added
+abbrev pub IsNext : Shape → ℕ → Part → Type 0
+IsNext s position part.Context = params_before s (position + 1) ≡ params_before s position
+IsNext s position part.Count = params_before s (position + 1) ≡ params_before s position
+IsNext s position (part.OfParam number) =
+    (params_before s position ≡ number) × (params_before s (position + 1) ≡ number + 1)

@@ -10,6 +10,7 @@ mod iface_views;
 mod members;
 mod method_fields;
 mod method_iter;
+mod method_params;
 mod method_views;
 mod param_iter;
 mod proto_args;

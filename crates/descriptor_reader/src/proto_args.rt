@@ -1,13 +1,19 @@
-ghost use Rattle.std.specs.Prelude.{◌≡◌, ◌+◌, ◌≤◌};
+ghost use Rattle.std.specs.Prelude.{◌≡◌, ◌+◌, ◌≤◌, None, slice_get};
 ghost use Rattle.lib_model.specs.declared.contents.Method.{Method};
 ghost use Rattle.lib_model.specs.Table as table;
+ghost use Rattle.typelib_faults.specs.Faults.{method_fault};
+ghost use Rattle.typelib_faults.specs.Places.{method_at};
 ghost use Rattle.descriptor_reader.specs.Shapes.{HasShape};
 
-use crate::shapes::{Shape, position};
+use crate::method_fields::params_of_method;
+use crate::method_params::param_by_number;
+use crate::shapes::{Part, Shape, part_at, position, shape_of_method};
 use crate::statuses::is_string_class;
 use bitflags::Flags;
 use call_model::{CType, Note, Pass, ProtoArg};
 use lib_model::{Param, ParamFlags, XType, tags};
+use typelib_check::File;
+use typelib_faults::Cursor;
 
 /// The context of the script that calls, as an argument that is added.
 pub(crate) fn context_arg() -> ProtoArg
@@ -89,5 +95,21 @@ pub(crate) fn arg_of(shape: Shape, param: Param) -> ProtoArg
         optional: param.flags.contains(ParamFlags::OPTIONAL)
             && !param.flags.contains(ParamFlags::RETVAL),
         note: note_of(shape, param.ty),
+    }
+}
+
+/// The argument at a position of the prototype of the method at a cursor, which has no fault.
+pub(crate) fn arg_of_method(file: &File<'_>, at: Cursor, position: u32) -> Option<ProtoArg>
+    requires { method_fault file.now.bytes.now at ≡ None }
+    ensures { result ≡ slice_get (table.proto_of (method_at file.now.bytes.now at.place)) position }
+{
+    let shape = shape_of_method(file, at);
+    match part_at(shape, position) {
+        Part::Context => Some(context_arg()),
+        Part::Count => Some(count_arg()),
+        Part::OfParam(number) => match param_by_number(file, params_of_method(file, at), number) {
+            Some(param) => Some(arg_of(shape, param)),
+            None => None,
+        },
     }
 }

@@ -4,7 +4,7 @@ ghost use Rattle.lib_model.specs.Table.{first_args, middle_args, position_in, wr
 ghost use Rattle.typelib_faults.specs.Faults.{method_fault};
 ghost use Rattle.typelib_faults.specs.Places.{method_at};
 ghost use Rattle.typelib_check.specs.Parts.{AreFineParams, params_of};
-ghost use Rattle.descriptor_reader.specs.Shapes.{HasShape, StandsAt, middle_context};
+ghost use Rattle.descriptor_reader.specs.Shapes.{HasShape, IsNext, StandsAt, middle_context};
 
 use crate::method_fields::{flags_of_method, params_of_method};
 use bitflags::Flags;
@@ -122,7 +122,8 @@ pub(crate) fn position(shape: Shape, number: u8) -> u16
 /// What stands at a position of the prototype.
 pub(crate) fn part_at(shape: Shape, position: u32) -> Part
     requires { shape.first + shape.middle ≤ 3 }
-    ensures { (m : Method) → HasShape shape m → StandsAt m position result }
+    ensures stands { (m : Method) → HasShape shape m → StandsAt m position result }
+    ensures next { IsNext shape position result }
 {
     let first = u32::from(shape.first);
     if position < first {

@@ -1,6 +1,6 @@
 ghost use Rattle.std.specs.Prelude.{◌≡◌, ◌+◌, ◌<◌, ◌^◌, List, None, length};
 ghost use Rattle.lib_model.specs.declared.param_types.Param.{Param};
-ghost use Rattle.typelib_faults.specs.Faults.{Tries, args_fault, count_arg_fault, elem_args_fault, iid_arg_fault, param_fault, param_next, type_args_fault};
+ghost use Rattle.typelib_faults.specs.Faults.{Tries, args_fault, count_arg_fault, elem_args_fault, form_fault, iid_arg_fault, param_fault, param_next, type_args_fault};
 ghost use Rattle.typelib_faults.specs.Places.{param_at, param_end};
 ghost use Rattle.typelib_faults.specs.Walk.{walk};
 ghost use Rattle.typelib_check.specs.Parts.{AreFineParams, HasTags, params_of};
@@ -9,7 +9,8 @@ use crate::file::File;
 use crate::lengths::{known_tag, param_behind};
 use crate::params::param;
 use crate::parts::Params;
-use lib_model::{Elem, Param, XType, tags};
+use crate::type_forms::type_form;
+use lib_model::{Elem, Param, ParamFlags, XType, tags};
 use typelib_faults::{ARGUMENT, BadTypelib, Cursor};
 
 /// The parameter at a cursor, which has no fault, and the cursor behind it.
@@ -20,6 +21,22 @@ pub fn known_param(file: &File<'_>, at: Cursor) -> (Param, Cursor)
 {
     match param(file, at) {
         Ok(found) => found,
+        Err(_) => unreachable!(),
+    }
+}
+
+/// The parameter that begins at `place`, whose type has no fault.
+pub fn param_value(file: &File<'_>, place: usize) -> Param
+    requires form { form_fault file.now.bytes.now (place + 1) ≡ None }
+    requires inside { place < length file.now.bytes.now }
+    ensures { result ≡ param_at file.now.bytes.now place }
+{
+    let bits = file.bytes[place] & ParamFlags::KNOWN;
+    match type_form(file, place + 1) {
+        Ok(ty) => Param {
+            flags: ParamFlags { bits },
+            ty,
+        },
         Err(_) => unreachable!(),
     }
 }
