@@ -1,10 +1,14 @@
 -- Where the arguments that are added stand in the prototype of a method.
-use Rattle.std.specs.Prelude.{◌≡◌, ℕ, ◌+◌, ◌-◌, min, Bool, true, false, ◌&&◌, not, nat_lt, List, [], ◌∷◌, length, slice_get, Option, Some, None, option_map, if◌then◌else◌}
+use Rattle.std.specs.Prelude.{◌≡◌, ℕ, ◌+◌, ◌-◌, ◌<◌, ◌≤◌, ◌^◌, min, Bool, true, false, ◌&&◌, not, nat_lt, List, [], ◌∷◌, length, slice_get, Option, Some, None, option_map, if◌then◌else◌}
 use Rattle.call_model.specs.declared.prototypes.ProtoArg.{ProtoArg}
 use Rattle.call_model.specs.declared.prototypes.Status.{Status}
 use Rattle.call_model.specs.declared.prototypes.Status.TheVariants.{Callable, Hidden, NotXpcom, Opaque}
 use Rattle.lib_model.specs.declared.contents.Method.{Method}
-use Rattle.lib_model.specs.Table.{arg_of, context_arg, count_arg, first_args, is_attribute, middle_args, position_in, proto_of, status_of, takes_context, written_count}
+use Rattle.lib_model.specs.Table.{arg_of, context_arg, count_arg, first_args, is_attribute, middle_args, position_in, proto_of, slot_of, status_of, takes_context, written_count}
+use Rattle.typelib_faults.specs.declared.cursor.Cursor.{Cursor}
+use Rattle.typelib_faults.specs.Faults.{method_fault}
+use Rattle.typelib_faults.specs.Places.{method_at, param_end}
+use Rattle.typelib_faults.specs.Walk.{reach}
 use Rattle.descriptor_reader.specs.declared.shapes.Part.{Part}
 use Rattle.descriptor_reader.specs.declared.shapes.Part.TheVariants as part
 use Rattle.descriptor_reader.specs.declared.shapes.Shape.{Shape}
@@ -50,3 +54,17 @@ IsNext s position part.Context = params_before s (position + 1) ≡ params_befor
 IsNext s position part.Count = params_before s (position + 1) ≡ params_before s position
 IsNext s position (part.OfParam number) =
     (params_before s position ≡ number) × (params_before s (position + 1) ≡ number + 1)
+
+-- an iterator over the arguments of the method at a cursor stands at a position, and the place of
+-- the next parameter
+pub record IsAtArg (x : List ℕ) (method : Cursor) (s : Shape) (position place : ℕ) : Type 0 where
+  pub fine : method_fault x method ≡ None
+  pub shape : HasShape s (method_at x method.place)
+  pub few : s.first + s.middle ≤ 3
+  pub reached : place ≡ reach (param_end x) (method.place + 6) (params_before s position)
+
+-- the same, where the prototype of the method ends at a position
+pub record IsArgIter (x : List ℕ) (method : Cursor) (s : Shape) (position end place : ℕ) : Type 0 where
+  pub at : IsAtArg x method s position place
+  pub ends : end ≡ length (slot_of (method_at x method.place)).proto
+  pub low : end < 2 ^ 32

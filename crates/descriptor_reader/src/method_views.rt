@@ -3,6 +3,7 @@ ghost use Rattle.lib_model.specs.Table.{kind_of, slot_of, status_of};
 ghost use Rattle.lib_model.specs.Valid.{IsMethod};
 ghost use Rattle.descriptor_reader.specs.Shapes.{position_of_param};
 
+use crate::arg_iter::ArgIter;
 use crate::method_fields::{flags_of_method, kind_of_method, name_of_method, params_of_method};
 use crate::param_iter::ParamIter;
 use crate::proto_args::arg_of_method;
@@ -137,6 +138,23 @@ impl<'a> MethodView<'a> {
         match self.status() {
             Status::Callable => arg_of_method(&self.checked.file, self.at, position),
             Status::Hidden | Status::NotXpcom | Status::Opaque => None,
+        }
+    }
+
+    /// The arguments of its prototype in order, without the object's address: those of parameters, and those that are added.
+    /// A method that may not be called has none.
+    #[tactic(auto, using(typelib_check::proofs::PartLaws::method_inside))]
+    pub fn args(&self) -> ArgIter<'a>
+        ensures items { result ≡ (slot_of self.now.method).proto }
+        ensures few { length result ≤ 257 }
+    {
+        ArgIter {
+            file: self.checked.file,
+            method: self.at,
+            shape: shape_of_method(&self.checked.file, self.at),
+            position: 0,
+            end: self.positions(),
+            place: self.at.place + 6,
         }
     }
 }
