@@ -16,9 +16,6 @@ use typelib_check::numbers::{half, word};
 use typelib_check::{CheckedFile, Constants, File, Methods};
 use typelib_faults::Cursor;
 
-/// The bits of an interface's flags that are known.
-const KNOWN: u8 = 0x80 | 0x40 | 0x20;
-
 /// The place of the descriptor of the interface of this number; None where it is not resolved.
 pub(crate) fn descriptor_place(checked: &CheckedFile<'_>, number: u16) -> Option<usize>
     requires above { 0 < number }
@@ -114,7 +111,7 @@ pub(crate) fn rest_of_descriptor(file: &File<'_>, place: usize) -> Rest
 {
     let constants = constants_of_descriptor(file, place);
     let last = constants_behind(file, constants);
-    let bits = file.bytes[last.place] & KNOWN;
+    let bits = file.bytes[last.place] & IfaceFlags::KNOWN;
     Rest {
         constant_count: constants.count,
         flags: IfaceFlags { bits },

@@ -1,7 +1,9 @@
 ghost use Rattle.std.specs.Prelude.{◌≡◌, ◌+◌, ◌-◌, ◌≤◌, ◌<◌, Some, drop, is_some, length, option_map, slice_get, take};
+ghost use Rattle.call_model.specs.Tables.{end_slot, first_slot};
 ghost use Rattle.lib_model.specs.declared.contents.Iface.{Iface};
+ghost use Rattle.lib_model.specs.Table.{table_of};
 ghost use Rattle.lib_model.specs.Valid.{IsIfaceNumber, IsValid, body_of, parent_of};
-ghost use Rattle.descriptor_reader.specs.Views.{end_slot_of, first_slot_of, flags_in, iface_of, own_constants_of, own_methods_of};
+ghost use Rattle.descriptor_reader.specs.Views.{flags_in, iface_of, own_constants_of, own_methods_of};
 
 use crate::const_iter::ConstIter;
 use crate::const_views::ConstView;
@@ -66,7 +68,7 @@ impl<'a> IfaceView<'a> {
 
     /// One past its last slot; 0 where it is not resolved.
     pub fn end_slot(&self) -> u16
-        ensures slot { result ≡ end_slot_of self.now }
+        ensures slot { result ≡ end_slot (table_of self.now.library) self.now.number }
         ensures few { result ≤ 250 }
     {
         end_of_slots(&self.checked, self.number)
@@ -103,7 +105,7 @@ impl<'a> IfaceView<'a> {
 
     /// Its first own slot, which is the number of slots that its parent has; 0 where it is not resolved.
     pub fn first_slot(&self) -> u16
-        ensures slot { result ≡ first_slot_of self.now }
+        ensures slot { result ≡ first_slot (table_of self.now.library) self.now.number }
         ensures few { result ≤ 250 }
     {
         let (parent, _) = links(&self.checked.file, self.number);

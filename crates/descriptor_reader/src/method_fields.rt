@@ -4,14 +4,12 @@ ghost use Rattle.typelib_faults.specs.Faults.{method_fault};
 ghost use Rattle.typelib_faults.specs.Places.{method_at};
 ghost use Rattle.typelib_check.specs.Parts.{AreFineParams, params_of};
 
+use bitflags::Flags;
 use call_model::MemberKind;
 use typelib_check::names::known_name;
 use typelib_check::{File, Params};
 use lib_model::MethodFlags;
 use typelib_faults::Cursor;
-
-/// The bits of a method's flags that are known.
-const KNOWN: u8 = 0x80 | 0x40 | 0x20 | 0x10 | 0x08 | 0x04 | 0x02;
 
 /// The flags of the method at a cursor, which has no fault.
 #[tactic(auto, using(typelib_check::proofs::PartLaws::method_inside), unfolding(typelib_faults::specs::Places::method_at))]
@@ -19,7 +17,7 @@ pub(crate) fn flags_of_method(file: &File<'_>, at: Cursor) -> MethodFlags
     requires { method_fault file.now.bytes.now at ≡ None }
     ensures { result ≡ (method_at file.now.bytes.now at.place).flags }
 {
-    let bits = file.bytes[at.place] & KNOWN;
+    let bits = file.bytes[at.place] & MethodFlags::KNOWN;
     MethodFlags { bits }
 }
 
@@ -37,10 +35,10 @@ pub(crate) fn kind_of_method(file: &File<'_>, at: Cursor) -> MemberKind
     requires { method_fault file.now.bytes.now at ≡ None }
     ensures { result ≡ kind_of (method_at file.now.bytes.now at.place) }
 {
-    let bits = flags_of_method(file, at).bits;
-    if bits & MethodFlags::GETTER.bits != 0 {
+    let flags = flags_of_method(file, at);
+    if flags.contains(MethodFlags::GETTER) {
         MemberKind::Get
-    } else if bits & MethodFlags::SETTER.bits != 0 {
+    } else if flags.contains(MethodFlags::SETTER) {
         MemberKind::Set
     } else {
         MemberKind::Plain

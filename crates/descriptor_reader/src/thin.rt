@@ -14,17 +14,14 @@ use typelib_check::interfaces::NAMESPACE_OFFSET;
 use typelib_check::lengths::method_behind;
 use typelib_check::numbers::{half, word};
 use typelib_check::{CheckedFile, File, Methods, Params};
-use lib_model::{Param, ParamFlags, XType};
+use lib_model::{Param, ParamFlags, XType, tags};
 use typelib_faults::Cursor;
-
-/// The tag of a number of 32 bits with a sign.
-const I32_TAG: u8 = 2;
 
 /// Whether a parameter carries a number of 32 bits into the call.
 fn thin_param(param: Param) -> bool
     ensures { IsTrue result ↔ IsThinParam param }
 {
-    param.flags == ParamFlags::IN && param.ty == XType::Plain(I32_TAG)
+    param.flags == ParamFlags::IN && param.ty == XType::Plain(tags::INT32)
 }
 
 /// Whether all these parameters, which have no fault, carry a number of 32 bits into the call.

@@ -1,12 +1,12 @@
 ghost use Rattle.std.specs.Prelude.{◌≡◌, ◌≤◌, ◌↔◌, IfErr, IfOk, IfSome, IsTrue, Ok, Some, length, option_map, slice_get};
-ghost use Rattle.call_model.specs.Tables.{iface_named, member_of};
+ghost use Rattle.call_model.specs.Tables.{descends_from, iface_named, iface_with_iid, member_of};
 ghost use Rattle.lib_model.specs.declared.contents.Library.{Library};
 ghost use Rattle.lib_model.specs.Denotes.{Denotes};
 ghost use Rattle.lib_model.specs.Table.{methods_of, table_of};
 ghost use Rattle.lib_model.specs.Thin.{IsThin};
 ghost use Rattle.lib_model.specs.Valid.{IsValid};
 ghost use Rattle.typelib_faults.specs.Laws.{FirstFault};
-ghost use Rattle.descriptor_reader.specs.Views.{MethodOf, descends_from, first_number, has_iid, numbered};
+ghost use Rattle.descriptor_reader.specs.Views.{MethodOf, numbered};
 
 use crate::finds::{find, find_iid};
 use crate::iface_views::IfaceView;
@@ -16,9 +16,9 @@ use crate::thin::thin_library;
 use call_model::MemberKind;
 use typelib_check::chains::reaches;
 use typelib_check::{CheckedFile, checked};
-use lib_model::LONGEST_TYPELIB;
 use std::marker::Model;
 use typelib_faults::BadTypelib;
+use xp_base::MAX_TYPELIB;
 
 /// A typelib that has been checked. It borrows the file's bytes, takes no memory of its own, and stands for the library
 /// that the bytes denote.
@@ -37,11 +37,11 @@ impl<'a> Model for Typelib<'a> {
 }
 
 impl<'a> Typelib<'a> {
-    /// Checks whether the bytes, of which there are at most `LONGEST_TYPELIB`, are a typelib. If so it stands for the
+    /// Checks whether the bytes, of which there are at most `MAX_TYPELIB`, are a typelib. If so it stands for the
     /// library that they denote, in the XPCOM typelib format; there is only one. Otherwise the answer is the first fault in
     /// the order in which a typelib is read.
     pub fn check(bytes: &'a [u8]) -> Result<Typelib<'a>, BadTypelib>
-        requires { length bytes.now ≤ LONGEST_TYPELIB }
+        requires { length bytes.now ≤ MAX_TYPELIB }
         ensures ok { IfOk result (λ lib. Denotes bytes.now lib) }
         ensures only { (lib : Library) → Denotes bytes.now lib → result ≡ Ok lib }
         ensures err { IfErr result (λ fault. FirstFault bytes.now fault) }
@@ -84,7 +84,7 @@ impl<'a> Typelib<'a> {
 
     /// The number, counted from 1, of the first resolved interface of this identifier; None where there is none.
     pub fn find_iid(&self, iid: &[u8; 16]) -> Option<u16>
-        ensures { result ≡ first_number (has_iid iid.now) self.now }
+        ensures { result ≡ iface_with_iid (table_of self.now) iid.now }
     {
         find_iid(&self.checked, iid)
     }
@@ -140,7 +140,7 @@ impl<'a> Typelib<'a> {
     /// Whether the interface `k` is `from` or descends from it; both are counted from 1.
     #[tactic(auto, using(crate::proofs::ViewLaws::directory_known))]
     pub fn descends(&self, k: u16, from: u16) -> bool
-        ensures { result ≡ descends_from self.now k from }
+        ensures { result ≡ descends_from (table_of self.now) k from }
     {
         if k > self.checked.file.count {
             return k == from;

@@ -7,7 +7,7 @@ use Rattle.std.proofs.lemmas.List.{length-map, map-append}
 use Rattle.std.proofs.lemmas.Option.{slice_get-map, slice_get_past}
 use Rattle.call_model.specs.declared.prototypes.MemberKind.{MemberKind}
 use Rattle.call_model.specs.declared.tables.TableIface.{TableIface}
-use Rattle.call_model.specs.Tables.{behind_or, iface_at, iface_named, is_member, member_within, slots_of, slots_within, HasShortLineage, lineage_of, lineage_within}
+use Rattle.call_model.specs.Tables.{behind_or, iface_at, iface_named, iface_with_iid, is_member, member_within, slots_of, slots_within, HasShortLineage, lineage_of, lineage_within}
 use Rattle.call_model.specs.Tables as tables
 use Rattle.lib_model.specs.declared.contents.Library.{Library}
 use Rattle.lib_model.specs.declared.contents.Iface.{Iface}
@@ -32,7 +32,7 @@ slots_told : (o : Option Iface) → tables.slots_in (option_map table_iface o) �
 slots_told None = refl
 slots_told (Some i) = refl
 
-parent_in_table : (ifaces : List Iface) (k : ℕ) → tables.parent_in (iface_at (map table_iface ifaces) k) ≡ parent_of ifaces k
+pub parent_in_table : (ifaces : List Iface) (k : ℕ) → tables.parent_in (iface_at (map table_iface ifaces) k) ≡ parent_of ifaces k
 parent_in_table ifaces zero = refl
 parent_in_table ifaces (suc k) = ap tables.parent_in (slice_get-map table_iface ifaces k) ∙ parent_told (slice_get ifaces k)
 
@@ -93,9 +93,14 @@ member_step kind name ifaces n k =
     let before : length (slots_within (map table_iface ifaces) n (parent_of ifaces k)) ≡ length (methods_within ifaces n (parent_of ifaces k)) = ap length (slots_within_table ifaces n (parent_of ifaces k)) ∙ length-map (methods_within ifaces n (parent_of ifaces k)) slot_of
     in rw (parent_in_table ifaces k, slots_in_table ifaces k, before, position_map slot_of (is_member kind name) (methods_in (body_of ifaces k))) refl
 
--- ---- names
+-- ---- names and identifiers
 
 pub iface_named_table : (lib : Library) (name : List ℕ) → iface_named (table_of lib) name ≡ option_map (λ k. k + 1) (position (λ (i : Iface). is_some i.body && bytes_eq i.name name) lib.ifaces)
 unfolding table_of
 iface_named_table lib name =
     ap (λ (o : Option ℕ). option_map (λ k. k + 1) o) (position_map table_iface (λ (i : TableIface). i.resolved && bytes_eq i.name name) lib.ifaces)
+
+pub iface_with_iid_table : (lib : Library) (iid : List ℕ) → iface_with_iid (table_of lib) iid ≡ option_map (λ k. k + 1) (position (λ (i : Iface). is_some i.body && bytes_eq i.iid iid) lib.ifaces)
+unfolding table_of
+iface_with_iid_table lib iid =
+    ap (λ (o : Option ℕ). option_map (λ k. k + 1) o) (position_map table_iface (λ (i : TableIface). i.resolved && bytes_eq i.iid iid) lib.ifaces)

@@ -9,6 +9,7 @@ use crate::file::File;
 use crate::items::count_item;
 use crate::names::name;
 use crate::type_forms::{TAG_COUNT, bad_tag, tag};
+use lib_model::tags;
 use typelib_faults::{BadTypelib, Cursor};
 use xp_base::ConstKind;
 
@@ -17,10 +18,10 @@ fn kind_of_tag(tag: u8) -> Option<ConstKind>
     ensures { MatchOption result (is_kind_tag tag ≡ false) (λ kind. (is_kind_tag tag ≡ true) × (kind ≡ kind_by_tag tag)) }
 {
     match tag {
-        1 => Some(ConstKind::I16),
-        2 => Some(ConstKind::I32),
-        5 => Some(ConstKind::U16),
-        6 => Some(ConstKind::U32),
+        tags::INT16 => Some(ConstKind::I16),
+        tags::INT32 => Some(ConstKind::I32),
+        tags::UINT16 => Some(ConstKind::U16),
+        tags::UINT32 => Some(ConstKind::U32),
         _ => None,
     }
 }

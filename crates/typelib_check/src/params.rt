@@ -10,9 +10,6 @@ use crate::type_forms::{len_of_type, type_form};
 use lib_model::{Elem, Param, ParamFlags, XType};
 use typelib_faults::{BadTypelib, Cursor, NUMBER};
 
-/// The bits of a parameter's flags that are known.
-const KNOWN: u8 = 0x80 | 0x40 | 0x20 | 0x10 | 0x08 | 0x04;
-
 /// Tries whether this is the number of an interface; it stands at `place`.
 fn number(file: &File<'_>, number: u16, place: usize) -> Result<(), BadTypelib>
     ensures { Tries result (number_fault (count_of file.now.bytes.now) number place) }
@@ -67,7 +64,7 @@ pub fn param(file: &File<'_>, at: Cursor) -> Result<(Param, Cursor), BadTypelib>
     ensures inside { OnOk result (at.place < length file.now.bytes.now) }
 {
     count_item(at)?;
-    let bits = byte(file, at.place)? & KNOWN;
+    let bits = byte(file, at.place)? & ParamFlags::KNOWN;
     let ty = type_of_param(file, at.place + 1)?;
     let next = Cursor {
         place: at.place + 1 + len_of_type(ty),

@@ -5,7 +5,7 @@ ghost use Rattle.typelib_faults.specs.Places.{elem_at, elem_len, type_at, type_l
 
 use crate::fields::{byte, half};
 use crate::file::File;
-use lib_model::{Elem, XType};
+use lib_model::{Elem, XType, tags};
 use typelib_faults::{BadTypelib, TAG};
 
 /// How many tags there are: the low five bits of a type's byte are its tag.
@@ -35,9 +35,10 @@ fn elem_form(file: &File<'_>, place: usize) -> Result<Elem, BadTypelib>
     ensures { Gives (λ v. v) result (elem_form_fault file.now.bytes.now place) (elem_at file.now.bytes.now place) }
 {
     match tag(file, place)? {
-        18 => Ok(Elem::Iface(half(file, place + 1)?)),
-        19 => Ok(Elem::IidIs(byte(file, place + 1)?)),
-        20..=22 | 27.. => Err(bad_tag(place)),
+        tags::INTERFACE => Ok(Elem::Iface(half(file, place + 1)?)),
+        tags::INTERFACE_IS => Ok(Elem::IidIs(byte(file, place + 1)?)),
+        tags::ARRAY..=tags::SIZED_WSTRING => Err(bad_tag(place)),
+        tag if tag > tags::JSVAL => Err(bad_tag(place)),
         tag => Ok(Elem::Plain(tag)),
     }
 }
@@ -49,22 +50,22 @@ pub fn type_form(file: &File<'_>, place: usize) -> Result<XType, BadTypelib>
     ensures inside { OnOk result (place < length file.now.bytes.now) }
 {
     match tag(file, place)? {
-        18 => Ok(XType::Iface(half(file, place + 1)?)),
-        19 => Ok(XType::IidIs(byte(file, place + 1)?)),
-        20 => Ok(XType::Array {
+        tags::INTERFACE => Ok(XType::Iface(half(file, place + 1)?)),
+        tags::INTERFACE_IS => Ok(XType::IidIs(byte(file, place + 1)?)),
+        tags::ARRAY => Ok(XType::Array {
             size: byte(file, place + 1)?,
             len: byte(file, place + 2)?,
             elem: elem_form(file, place + 3)?,
         }),
-        21 => Ok(XType::SizedString {
+        tags::SIZED_STRING => Ok(XType::SizedString {
             size: byte(file, place + 1)?,
             len: byte(file, place + 2)?,
         }),
-        22 => Ok(XType::SizedWString {
+        tags::SIZED_WSTRING => Ok(XType::SizedWString {
             size: byte(file, place + 1)?,
             len: byte(file, place + 2)?,
         }),
-        27.. => Err(bad_tag(place)),
+        tag if tag > tags::JSVAL => Err(bad_tag(place)),
         tag => Ok(XType::Plain(tag)),
     }
 }
