@@ -8,7 +8,7 @@ use Rattle.call_model.specs.declared.ctypes.CType.{CType}
 use Rattle.call_model.specs.declared.ctypes.CType.TheVariants.{I8}
 use Rattle.call_model.specs.declared.places.Conv.TheVariants.{SysV64, Aapcs64}
 use Rattle.call_model.specs.Types.{is_float, integers, floats}
-use Rattle.call_model.specs.Placement.{type_at, finds_no_register, overflow_bytes, CountsOverflow}
+use Rattle.call_model.specs.Placement.{type_at, finds_no_register, gprs_of, fprs_of, overflow_bytes, overflow_count, CountsOverflow}
 
 -- a range with one number more
 range-more : (a n : ℕ) → range_with_len a (suc n) ≡ range_with_len a n ++ (a + n) ∷ []
@@ -35,13 +35,14 @@ counted gprs fprs types (suc n) le =
     ∙ omega (arith, counted gprs fprs types n (omega arith), one-more gprs fprs (integers (take n types)) (floats (take n types)) (is_float (type_at types n)), ints, flts)
 
 -- the count over the whole list
-counted-all : (gprs fprs : ℕ) (types : List CType) → overflow_bytes gprs fprs (integers types) (floats types) ≡ 8 * count_by (finds_no_register gprs fprs types) (range_with_len 0 (length types))
+counted-all : (gprs fprs : ℕ) (types : List CType)
+    → overflow_bytes gprs fprs (integers types) (floats types) ≡ 8 * overflow_count gprs fprs types
 counted-all gprs fprs types =
     let all : take (length types) types ≡ types = take_all (length types) types (omega arith) in
     omega (arith, counted gprs fprs types (length types) (omega arith), ap integers all, ap floats all)
 
 pub counts-overflow-sysv64 : CountsOverflow SysV64
-counts-overflow-sysv64 types = counted-all 6 8 types
+counts-overflow-sysv64 types = counted-all (gprs_of SysV64) (fprs_of SysV64) types
 
 pub counts-overflow-aapcs64 : CountsOverflow Aapcs64
-counts-overflow-aapcs64 types = counted-all 8 8 types
+counts-overflow-aapcs64 types = counted-all (gprs_of Aapcs64) (fprs_of Aapcs64) types

@@ -1,30 +1,19 @@
--- The bytes of a pattern, and the numbers that its low bytes make.
-use Rattle.std.proofs.Common.{◌≡◌, ℕ, suc, zero, ◌+◌, ◌*◌, ◌/◌, ◌%◌, ◌^◌, ◌<◌, ◌≤◌, add-one, ap, ◌∙◌, arith}
-use Rattle.std.proofs.lemmas.Nat.{mod-pow-add}
-use Rattle.std.proofs.Math.Nat.{mul-suc}
+-- The own bytes of a pattern.
+use Rattle.std.proofs.Common.{◌≡◌, ℕ, ◌*◌, ◌%◌, ◌^◌, ◌<◌, ◌≤◌, ap, sym, ◌∙◌, arith}
 use Rattle.std.proofs.lemmas.Grind.{common_steps}
 use Rattle.call_model.specs.declared.ctypes.CType.{CType}
 use Rattle.call_model.specs.declared.ctypes.CType.TheVariants.{I8, I16, I32, I64, Ptr}
 use Rattle.call_model.specs.declared.places.Conv.{Conv}
 use Rattle.call_model.specs.declared.places.Conv.TheVariants.{SysV64, I386, Aapcs64, Ms64, Aapcs32}
 use Rattle.call_model.specs.Placement.{space_of, word_of}
-use Rattle.call_model.specs.Values.{own_len, extended, canon, pattern_byte, low_number}
+use Rattle.call_model.specs.Values.{own_len, extended, canon}
+use Rattle.xp_base.specs.LittleEndian.{low_bytes}
+use Rattle.xp_base.proofs.LittleEndian.{low_bytes-mod}
 
--- n + 1 low bytes are the low byte and n more above it
-low-bytes : (n v : ℕ) → v % 2 ^ (8 * suc n) ≡ v % 256 + 256 * (v / 256 % 2 ^ (8 * n))
-low-bytes n v = rw (mul-suc 8 n) (omega (arith, mod-pow-add v (8 * n) 8))
-
--- numbers with the same low bytes have the same bytes there
-pub same-byte : (n k a b : ℕ) → a % 2 ^ (8 * n) ≡ b % 2 ^ (8 * n) → k < n → pattern_byte a k ≡ pattern_byte b k
-same-byte zero k a b e lt = absurd (omega arith)
-same-byte (suc n) zero a b e lt = omega (arith, e, low-bytes n a, low-bytes n b)
-same-byte (suc n) (suc k) a b e lt = same-byte n k (a / 256) (b / 256) (omega (arith, e, low-bytes n a, low-bytes n b)) (omega arith)
-
--- the low bytes of a number make its remainder
-pub low-own : (n v : ℕ) (byte : ℕ → ℕ) → ((k : ℕ) → k < n → byte k ≡ pattern_byte v k) → low_number n byte ≡ v % 2 ^ (8 * n)
-low-own zero v byte are = omega arith
-low-own (suc n) v byte are =
-    omega (arith, are 0 (omega arith), low-bytes n v, low-own n (v / 256) (λ k. byte (k + 1)) (λ k lt. ap byte (add-one k) ∙ are (suc k) (omega arith)))
+-- numbers that are the same up to n bytes have the same low bytes
+pub same-low_bytes : (n a b : ℕ) → a % 2 ^ (8 * n) ≡ b % 2 ^ (8 * n)
+    → low_bytes n a ≡ low_bytes n b
+same-low_bytes n a b e = sym (low_bytes-mod n a) ∙ ap (low_bytes n) e ∙ low_bytes-mod n b
 
 -- a value's own bytes fit its space on the stack
 pub own-fits : (conv : Conv) (t : CType) → own_len conv t ≤ space_of conv t

@@ -1,7 +1,7 @@
 -- What the frame of a call holds.
 use Rattle.std.proofs.Common.{◌≡◌, ◌≢◌, ℕ, suc, ◌+◌, ◌-◌, ◌<◌, ◌≤◌, cond, nat_lt, nat_le, ◌&&◌, inl, inr, List, [], ◌∷◌, ◌++◌, length, take, drop, map, append_assoc, get_or, ap, subst, sym, ◌∙◌, refl, arith}
-use Rattle.std.specs.List.{fold, range_with_len, slice_index}
-use Rattle.std.proofs.lemmas.List.{append-nil, length-take-le, take-append-drop}
+use Rattle.std.specs.List.{fold, range_with_len, slice_index, slice_range}
+use Rattle.std.proofs.lemmas.List.{append-nil, ext_get_or, get_or-drop, get_or-take, length-drop, length-take-le, take-append-drop, take-take}
 use Rattle.std.proofs.Math.Seq.{drop-cons}
 use Rattle.std.proofs.lemmas.List.Sums.{fold-append}
 use Rattle.std.proofs.lemmas.List.FromFn.{get_or-map-range_with_len, length-map-range_with_len}
@@ -9,19 +9,43 @@ use Rattle.std.proofs.lemmas.List.{get_or_past}
 use Rattle.std.proofs.lemmas.Bool.{cases_lt}
 use Rattle.std.proofs.lemmas.Bool.Decides.{eqb_tells}
 use Rattle.std.proofs.lemmas.Grind.{common_steps}
+use Rattle.xp_base.specs.LittleEndian.{low_bytes}
+use Rattle.xp_base.proofs.LittleEndian.{length-low_bytes}
 use Rattle.call_model.specs.declared.ctypes.CType.{CType}
 use Rattle.call_model.specs.declared.ctypes.CType.TheVariants.{I8}
 use Rattle.call_model.specs.declared.places.Conv.{Conv}
 use Rattle.call_model.specs.declared.places.Conv.TheVariants.{SysV64, I386, Aapcs64, Ms64, Aapcs32}
 use Rattle.call_model.specs.declared.places.Loc.{Loc}
 use Rattle.call_model.specs.declared.places.Loc.TheVariants.{Gpr, Fpr, Stack}
-use Rattle.call_model.specs.Placement.{place, place_at, type_at, space_of, stack_len_of, StandsBefore, IsWithin, gprs_of, fprs_of}
+use Rattle.call_model.specs.Placement.{place, place_at, type_at, space_at, space_of, stack_len_of, StandsBefore, IsWithin, gprs_of, fprs_of}
 use Rattle.call_model.specs.Laws.{places-apart, places-within}
-use Rattle.call_model.specs.Values.{Argument, arguments, arguments_after, gpr_at, fpr_at, byte_at, gpr_of, fpr_of, byte_of, frame_of, pattern_byte, HoldsPattern, HoldsEach, Covers, IsZeroElsewhere}
+use Rattle.call_model.specs.Values.{Argument, argument, arguments, arguments_after, frame_registers, gpr_at, fpr_at, byte_at, gpr_of, fpr_of, byte_of, frame_of, HoldsPattern, HoldsEach, Covers, IsZeroElsewhere, HoldsArguments}
 
--- the argument of this type and pattern after these types
-abbrev pub argument : Conv → (earlier : List CType) → CType → (pattern : ℕ) → Argument
-argument conv earlier t p = record { at = place conv earlier t; space = space_of conv t; pattern = p }
+-- the first n bytes of a longer slice
+pub shorter-slice : (xs : List ℕ) (at n m : ℕ) → n ≤ m
+    → slice_range xs at (at + n) ≡ take n (slice_range xs at (at + m))
+shorter-slice xs at n m le =
+    let one : at + n - at ≡ n = omega arith in
+    let other : at + m - at ≡ m = omega arith in
+    rw (one, other) (sym (take-take n m (drop at xs) le))
+
+-- byte k of a slice within the bytes
+pub slice-byte : (xs : List ℕ) (at n k : ℕ) → k < n
+    → get_or (slice_range xs at (at + n)) k 0 ≡ get_or xs (at + k) 0
+slice-byte xs at n k lt =
+    let count : at + n - at ≡ n = omega arith in
+    rw count (get_or-take n (drop at xs) k 0 lt ∙ get_or-drop at xs k 0)
+
+-- a slice that has the low bytes of a number, one by one
+slice-is : (xs : List ℕ) (at n v : ℕ) → at + n ≤ length xs
+    → ((k : ℕ) → k < n → get_or xs (at + k) 0 ≡ get_or (low_bytes n v) k 0)
+    → slice_range xs at (at + n) ≡ low_bytes n v
+slice-is xs at n v fits each =
+    let count : at + n - at ≡ n = omega arith in
+    let long : length (slice_range xs at (at + n)) ≡ n
+    = rw count (length-take-le n (drop at xs) (omega (arith, length-drop at xs, fits))) in
+    ext_get_or 0 (slice_range xs at (at + n)) (low_bytes n v) (long ∙ sym (length-low_bytes n v))
+    (λ k lt. let below : k < n = omega (arith, lt, long) in slice-byte xs at n k below ∙ each k below)
 
 -- arguments in two parts
 pub arguments_after-append : (conv : Conv) (earlier types more : List CType) (patterns others : List ℕ) → length types ≡ length patterns → arguments_after conv earlier (types ++ more) (patterns ++ others) ≡ arguments_after conv earlier types patterns ++ arguments_after conv (earlier ++ types) more others
@@ -79,8 +103,11 @@ gpr-put r n p = grind (arith, common_steps)
 fpr-put : (r n p : ℕ) → fpr_at r n (Fpr r) p ≡ p
 fpr-put r n p = grind (arith, common_steps)
 
-byte-put : (at k n space p : ℕ) → k < space → byte_at (at + k) n (Stack at) space p ≡ pattern_byte p k
-byte-put at k n space p lt = let is : (at + k) - at ≡ k = omega arith in grind (arith, common_steps, ap (pattern_byte p) is)
+byte-put : (at k n space p : ℕ) → k < space
+    → byte_at (at + k) n (Stack at) space p ≡ get_or (low_bytes space p) k 0
+byte-put at k n space p lt =
+    let is : (at + k) - at ≡ k = omega arith in
+    grind (arith, common_steps, ap (λ j. get_or (low_bytes space p) j 0) is)
 
 -- no convention has more than 8 registers of a class
 registers-at-most : (conv : Conv) → (gprs_of conv ≤ 8) × (fprs_of conv ≤ 8)
@@ -104,18 +131,22 @@ holds-middle conv earlier t later before p after e (Fpr r) is =
     ∙ fold-middle conv earlier t later before p after (λ other a. fpr_at r other a.at a.pattern) e (λ other a apart. fpr-keeps r (place conv earlier t) a.at (space_of conv t) other a.pattern is apart)
     ∙ ap (λ l. fpr_at r (fpr_of (arguments conv earlier before) r) l p) is
     ∙ fpr-put r _ p
-holds-middle conv earlier t later before p after e (Stack at) is = λ k lt.
+holds-middle conv earlier t later before p after e (Stack at) is =
     let within : at + space_of conv t ≤ stack_len_of conv (earlier ++ t ∷ later) = subst (λ l. IsWithin conv (stack_len_of conv (earlier ++ t ∷ later)) l (space_of conv t)) is (places-within conv earlier t later) in
-    get_or-map-range_with_len (byte_of (arguments conv (earlier ++ t ∷ later) (before ++ p ∷ after))) 0 (stack_len_of conv (earlier ++ t ∷ later)) (at + k) (at + k) 0 (omega (arith, within, lt)) (omega arith)
+    let stack : List ℕ = (frame_of conv (earlier ++ t ∷ later) (before ++ p ∷ after)).stack in
+    slice-is stack at (space_of conv t) p
+    (omega (arith, within, length-map-range_with_len (byte_of (arguments conv (earlier ++ t ∷ later) (before ++ p ∷ after))) 0 (stack_len_of conv (earlier ++ t ∷ later))))
+    (λ k lt. get_or-map-range_with_len (byte_of (arguments conv (earlier ++ t ∷ later) (before ++ p ∷ after))) 0 (stack_len_of conv (earlier ++ t ∷ later)) (at + k) (at + k) 0 (omega (arith, within, lt)) (omega arith)
     ∙ fold-middle conv earlier t later before p after (λ other a. byte_at (at + k) other a.at a.space a.pattern) e (λ other a apart. byte-keeps at k (place conv earlier t) a.at (space_of conv t) a.space other a.pattern is lt apart)
     ∙ ap (λ l. byte_at (at + k) (byte_of (arguments conv earlier before) (at + k)) l (space_of conv t) p) is
-    ∙ byte-put at k _ (space_of conv t) p lt
+    ∙ byte-put at k _ (space_of conv t) p lt)
 
 -- a list is what comes before a place, the element there, and the rest
 split-at : {X : Type 0} (xs : List X) (i : ℕ) (d : X) → i < length xs → take i xs ++ get_or xs i d ∷ drop (suc i) xs ≡ xs
 split-at xs i d lt = ap (λ ys. take i xs ++ ys) (sym (drop-cons xs i d lt)) ∙ take-append-drop i xs
 
-pub holds-each : (conv : Conv) → HoldsEach conv
+pub holds-each : (conv : Conv) (types : List CType) (patterns : List ℕ) → length types ≡ length patterns
+    → HoldsEach conv types patterns (frame_of conv types patterns)
 holds-each conv types patterns e i lt =
     let in_patterns : i < length patterns = omega (arith, e, lt) in
     let same_front : length (take i types) ≡ length (take i patterns)
@@ -153,7 +184,7 @@ outside b n p at end q not_in = grind (arith, common_steps)
 byte-untouched : (b n space p : ℕ) (loc : Loc) → ¬ Covers loc space b → byte_at b n loc space p ≡ n
 byte-untouched b n space p (Gpr s) not_in = refl
 byte-untouched b n space p (Fpr s) not_in = refl
-byte-untouched b n space p (Stack at) not_in = outside b n p at (at + space) (pattern_byte p (b - at)) not_in
+byte-untouched b n space p (Stack at) not_in = outside b n p at (at + space) (get_or (low_bytes space p) (b - at) 0) not_in
 
 -- a list of what is zero up to n is zero at each place
 zero-at : (f : ℕ → ℕ) (n r : ℕ) → (r < n → f r ≡ 0) → get_or (map f (range_with_len 0 n)) r 0 ≡ 0
@@ -162,9 +193,27 @@ zero-at f n r is = elim (cases_lt r n) [
   | inr ge ↦ get_or_past (map f (range_with_len 0 n)) r 0 (omega (arith, ge, length-map-range_with_len f 0 n))
 ]
 
-pub is-zero-elsewhere : (conv : Conv) → IsZeroElsewhere conv
-is-zero-elsewhere conv = record {
-  gprs_are = λ types patterns r none. zero-at (gpr_of (arguments conv types patterns)) 8 r (λ _. fold-untouched conv [] types patterns (λ other a. gpr_at r other a.at a.pattern) 0 (λ i lt other p. gpr-untouched r other p (place_at conv types i) (none i lt)));
-  fprs_are = λ types patterns r none. zero-at (fpr_of (arguments conv types patterns)) 8 r (λ _. fold-untouched conv [] types patterns (λ other a. fpr_at r other a.at a.pattern) 0 (λ i lt other p. fpr-untouched r other p (place_at conv types i) (none i lt)));
-  stack_is = λ types patterns b none. zero-at (byte_of (arguments conv types patterns)) (stack_len_of conv types) b (λ _. fold-untouched conv [] types patterns (λ other a. byte_at b other a.at a.space a.pattern) 0 (λ i lt other p. byte-untouched b other (space_of conv (type_at types i)) p (place_at conv types i) (none i lt)));
-}
+pub is-zero-elsewhere : (conv : Conv) (types : List CType) (patterns : List ℕ)
+    → IsZeroElsewhere conv types (frame_of conv types patterns)
+is-zero-elsewhere conv types patterns =
+    let args : List Argument = arguments conv types patterns in
+    record {
+      gprs_are = λ r none. zero-at (gpr_of args) frame_registers r
+          (λ _. fold-untouched conv [] types patterns (λ other a. gpr_at r other a.at a.pattern) 0 (λ i lt other p. gpr-untouched r other p (place_at conv types i) (none i lt)));
+      fprs_are = λ r none. zero-at (fpr_of args) frame_registers r
+          (λ _. fold-untouched conv [] types patterns (λ other a. fpr_at r other a.at a.pattern) 0 (λ i lt other p. fpr-untouched r other p (place_at conv types i) (none i lt)));
+      stack_is = λ b none. zero-at (byte_of args) (stack_len_of conv types) b
+          (λ _. fold-untouched conv [] types patterns (λ other a. byte_at b other a.at a.space a.pattern) 0 (λ i lt other p. byte-untouched b other (space_at conv types i) p (place_at conv types i) (none i lt)));
+    }
+
+pub holds-arguments : (conv : Conv) (types : List CType) (patterns : List ℕ) → length types ≡ length patterns
+    → HoldsArguments conv types patterns (frame_of conv types patterns)
+holds-arguments conv types patterns e =
+    let args : List Argument = arguments conv types patterns in
+    record {
+      gprs_are = length-map-range_with_len (gpr_of args) 0 frame_registers;
+      fprs_are = length-map-range_with_len (fpr_of args) 0 frame_registers;
+      stack_is = length-map-range_with_len (byte_of args) 0 (stack_len_of conv types);
+      each = holds-each conv types patterns e;
+      elsewhere = is-zero-elsewhere conv types patterns;
+    }

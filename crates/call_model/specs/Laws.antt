@@ -7,7 +7,7 @@ use Rattle.call_model.specs.declared.ctypes.CType.{CType}
 use Rattle.call_model.specs.declared.places.Conv.{Conv}
 use Rattle.call_model.specs.declared.places.Conv.TheVariants.{SysV64, I386, Aapcs64, Ms64, Aapcs32}
 use Rattle.call_model.specs.Types.{is_float, is_wide, integers, floats}
-use Rattle.call_model.specs.Placement.{place_by_class, place_by_position, overflow_bytes, four_or_eight, rounded, area_end, StandsBefore, PlacesApart, IsWithin, PlacesWithin, gprs_of, fprs_of, Continues, FillsStack, StackGrows, StackIsBounded}
+use Rattle.call_model.specs.Placement.{place_by_class, place_by_position, positions_end, class_place, class_stack, overflow_bytes, four_or_eight, rounded, area_end, StandsBefore, PlacesApart, IsWithin, PlacesWithin, gprs_of, fprs_of, Continues, FillsStack, StackGrows, StackIsBounded}
 
 -- a sum over a list with an element in the middle
 sum-middle : {X : Type 0} (f : X → ℕ) (xs : List X) (t : X) (ys : List X) → sum_by f (xs ++ t ∷ ys) ≡ sum_by f xs + (f t + sum_by f ys)
@@ -41,7 +41,7 @@ length-middle : {X : Type 0} (xs : List X) (t : X) (ys : List X) → length (xs 
 length-middle xs t ys = omega (arith, length-append xs (t ∷ ys))
 
 -- the place of a type is no lower than the end of the earlier ones
-rounded-ge : (at : ℕ) (t : CType) → at ≤ rounded at t
+pub rounded-ge : (at : ℕ) (t : CType) → at ≤ rounded at t
 rounded-ge at t = grind (arith, common_steps)
 
 -- going on from a place, the end only grows
@@ -52,36 +52,43 @@ area_from-grows at (t ∷ types) = omega (arith, rounded-ge at t, area_from-grow
 area_end-middle : (earlier : List CType) (t : CType) (later : List CType) → area_end (earlier ++ t ∷ later) ≡ fold (λ at t. rounded at t + four_or_eight t) (rounded (area_end earlier) t + four_or_eight t) later
 area_end-middle earlier t later = fold-append (λ at t. rounded at t + four_or_eight t) 0 earlier (t ∷ later)
 
-area-apart : (earlier : List CType) (t : CType) (between : List CType) → rounded (area_end earlier) t + four_or_eight t ≤ area_end (earlier ++ t ∷ between)
+pub area-apart : (earlier : List CType) (t : CType) (between : List CType) → rounded (area_end earlier) t + four_or_eight t ≤ area_end (earlier ++ t ∷ between)
 area-apart earlier t between =
     omega (arith, area_end-middle earlier t between, area_from-grows (rounded (area_end earlier) t + four_or_eight t) between)
 
 pub places-apart : (conv : Conv) → PlacesApart conv
-places-apart SysV64 earlier t between u = classes-apart 6 8 earlier t between u
+places-apart SysV64 earlier t between u =
+    classes-apart (gprs_of SysV64) (fprs_of SysV64) earlier t between u
 places-apart I386 earlier t between u = omega (arith, sum-middle four_or_eight earlier t between)
-places-apart Aapcs64 earlier t between u = classes-apart 8 8 earlier t between u
+places-apart Aapcs64 earlier t between u =
+    classes-apart (gprs_of Aapcs64) (fprs_of Aapcs64) earlier t between u
 places-apart Ms64 earlier t between u =
     positions-apart _ _ (is_float t) (is_float u) (omega (arith, length-middle earlier t between))
 places-apart Aapcs32 earlier t between u =
     omega (arith, area-apart earlier t between, rounded-ge (area_end (earlier ++ t ∷ between)) u)
 
 -- a place by class is a register of the class, or within the bytes of a list that holds the type too
-class-within : (conv : Conv) (gprs fprs i f j k : ℕ) (b : Bool) → gprs ≡ gprs_of conv → fprs ≡ fprs_of conv → i + cond (not b) 1 0 ≤ j → f + cond b 1 0 ≤ k → IsWithin conv (overflow_bytes gprs fprs j k) (place_by_class gprs fprs i f b) 8
-class-within conv g h i f j k true m n p q = grind (arith, common_steps)
-class-within conv g h i f j k false m n p q = grind (arith, common_steps)
+class-within : (conv : Conv) (i f j k : ℕ) (b : Bool)
+    → i + cond (not b) 1 0 ≤ j → f + cond b 1 0 ≤ k
+    → IsWithin conv (overflow_bytes (gprs_of conv) (fprs_of conv) j k)
+    (place_by_class (gprs_of conv) (fprs_of conv) i f b) 8
+class-within conv i f j k true p q = grind (arith, common_steps)
+class-within conv i f j k false p q = grind (arith, common_steps)
 
-classes-within : (conv : Conv) (gprs fprs : ℕ) (earlier : List CType) (t : CType) (later : List CType) → gprs ≡ gprs_of conv → fprs ≡ fprs_of conv → IsWithin conv (overflow_bytes gprs fprs (integers (earlier ++ t ∷ later)) (floats (earlier ++ t ∷ later))) (place_by_class gprs fprs (integers earlier) (floats earlier) (is_float t)) 8
-classes-within conv g h earlier t later m n =
-    class-within conv g h _ _ _ _ (is_float t) m n (omega (arith, integers-middle earlier t later)) (omega (arith, floats-middle earlier t later))
+classes-within : (conv : Conv) (earlier : List CType) (t : CType) (later : List CType)
+    → IsWithin conv (class_stack conv (earlier ++ t ∷ later)) (class_place conv earlier t) 8
+classes-within conv earlier t later =
+    class-within conv _ _ _ _ (is_float t)
+    (omega (arith, integers-middle earlier t later)) (omega (arith, floats-middle earlier t later))
 
-position-within : (i n : ℕ) (b : Bool) → i < n → IsWithin Ms64 (32 + 8 * (n - 4)) (place_by_position i b) 8
+position-within : (i n : ℕ) (b : Bool) → i < n → IsWithin Ms64 (positions_end n) (place_by_position i b) 8
 position-within i n true lt = grind (arith, common_steps)
 position-within i n false lt = grind (arith, common_steps)
 
 pub places-within : (conv : Conv) → PlacesWithin conv
-places-within SysV64 earlier t later = classes-within SysV64 6 8 earlier t later refl refl
+places-within SysV64 earlier t later = classes-within SysV64 earlier t later
 places-within I386 earlier t later = omega (arith, sum-middle four_or_eight earlier t later)
-places-within Aapcs64 earlier t later = classes-within Aapcs64 8 8 earlier t later refl refl
+places-within Aapcs64 earlier t later = classes-within Aapcs64 earlier t later
 places-within Ms64 earlier t later =
     position-within _ _ (is_float t) (omega (arith, length-middle earlier t later))
 places-within Aapcs32 earlier t later = omega (arith, area-apart earlier t later)
@@ -91,11 +98,15 @@ class-continues : (gprs fprs i f : ℕ) (b : Bool) → Continues (overflow_bytes
 class-continues g h i f true = grind (arith, common_steps)
 class-continues g h i f false = grind (arith, common_steps)
 
-classes-continue : (gprs fprs : ℕ) (earlier : List CType) (t : CType) → Continues (overflow_bytes gprs fprs (integers earlier) (floats earlier) + 0) (overflow_bytes gprs fprs (integers (earlier ++ t ∷ [])) (floats (earlier ++ t ∷ []))) (place_by_class gprs fprs (integers earlier) (floats earlier) (is_float t)) 8
-classes-continue g h earlier t =
-    rw (integers-middle earlier t [], floats-middle earlier t []) (class-continues g h (integers earlier) (floats earlier) (is_float t))
+classes-continue : (conv : Conv) (earlier : List CType) (t : CType)
+    → Continues (class_stack conv earlier + 0) (class_stack conv (earlier ++ t ∷ []))
+    (class_place conv earlier t) 8
+classes-continue conv earlier t =
+    rw (integers-middle earlier t [], floats-middle earlier t [])
+    (class-continues (gprs_of conv) (fprs_of conv) (integers earlier) (floats earlier) (is_float t))
 
-position-continues : (i : ℕ) (b : Bool) → Continues (32 + 8 * (i - 4) + 0) (32 + 8 * (i + 1 - 4)) (place_by_position i b) 8
+position-continues : (i : ℕ) (b : Bool) →
+    Continues (positions_end i + 0) (positions_end (i + 1)) (place_by_position i b) 8
 position-continues i true = grind (arith, common_steps)
 position-continues i false = grind (arith, common_steps)
 
@@ -110,17 +121,20 @@ area_from-words at [] words = words
 area_from-words at (t ∷ types) words =
     area_from-words (rounded at t + four_or_eight t) types (end-words at (is_wide t) words)
 
+pub area-words : (types : List CType) → area_end types % 4 ≡ 0
+area-words types = area_from-words 0 types refl
+
 -- a place that is a whole word is rounded by 4 bytes or by none
 rounded-padding : (at : ℕ) (b : Bool) → at % 4 ≡ 0 → cond b ((at + 7) / 8 * 8) at ≡ at + cond (b && nat_eq (at % 8) 4) 4 0
 rounded-padding at true words = grind (arith, common_steps)
 rounded-padding at false words = grind (arith, common_steps)
 
 pub fills-stack : (conv : Conv) → FillsStack conv
-fills-stack SysV64 = record { starts = refl; continues = λ earlier t. classes-continue 6 8 earlier t; whole = λ types. omega arith }
+fills-stack SysV64 = record { starts = refl; continues = λ earlier t. classes-continue SysV64 earlier t; whole = λ types. omega arith }
 fills-stack I386 = record { starts = refl; continues = λ earlier t. (omega arith, omega (arith, sum-middle four_or_eight earlier t [])); whole = λ types. omega arith }
-fills-stack Aapcs64 = record { starts = refl; continues = λ earlier t. classes-continue 8 8 earlier t; whole = λ types. omega arith }
+fills-stack Aapcs64 = record { starts = refl; continues = λ earlier t. classes-continue Aapcs64 earlier t; whole = λ types. omega arith }
 fills-stack Ms64 = record { starts = refl; continues = λ earlier t. rw (length-append {A = CType}) (position-continues (length earlier) (is_float t)); whole = λ types. omega arith }
-fills-stack Aapcs32 = record { starts = refl; continues = λ earlier t. let place_is = rounded-padding (area_end earlier) (is_wide t) (area_from-words 0 earlier refl) in (place_is, area_end-middle earlier t [] ∙ ap (λ n. n + four_or_eight t) place_is); whole = λ types. refl }
+fills-stack Aapcs32 = record { starts = refl; continues = λ earlier t. let place_is = rounded-padding (area_end earlier) (is_wide t) (area-words earlier) in (place_is, area_end-middle earlier t [] ∙ ap (λ n. n + four_or_eight t) place_is); whole = λ types. refl }
 
 pub stack-grows : (conv : Conv) → StackGrows conv
 stack-grows SysV64 types more =
