@@ -1,8 +1,11 @@
-//! Where the base procedure call standard for the Arm 32-bit architecture, with soft float, passes arguments.
+//! Where the base procedure call standard for the Arm 32-bit architecture, with soft float, passes
+//! arguments.
 //!
-//! A 64-bit value begins at an even register or at a multiple of 8 on the stack, every other value at any word, and after
-//! one argument on the stack none is in a register. So r0 to r3 and the stack after them are one area, which is shown here
-//! as the stack: its bytes 0 to 15 are r0 to r3, and the real stack follows.
+//! A 64-bit value begins at an even register or at a multiple of 8 on the stack, every other value
+//! at any word, and after one argument on the stack none is in a register. So r0 to r3 and the
+//! stack after them are one area, which is shown here as the stack: its bytes 0 to 15 are r0 to
+//! r3, and the real stack follows. `call_model::laws` says these rules in the words of the
+//! standard.
 #![tactic(auto)]
 
 ghost use Rattle.std.specs.Prelude.{◌≡◌};
@@ -15,7 +18,8 @@ use call_model::{CType, Conv, Convention, Loc, space_of};
 // the bytes of r0 to r3
 const REGISTERS: u32 = 16;
 
-/// A walk along the arguments of a call under AAPCS32. It keeps the end of the last one in the area.
+/// A walk along the arguments of a call under AAPCS32. It keeps the end of the last one in the
+/// area.
 #[derive(Debug, Drop)]
 pub struct Walk {
     end: u32,
@@ -59,24 +63,4 @@ impl Convention for Walk {
     ghost grows = { stack-grows Aapcs32 };
 
     ghost bounded = { stack-is-bounded Aapcs32 };
-}
-
-#[cfg(test)]
-mod tests {
-    use super::*;
-    use call_model::passes_at;
-
-    #[test]
-    fn a_long_long_begins_at_a_multiple_of_eight(rt: HostRuntime) {
-        let types = [CType::Ptr, CType::I64, CType::Bool, CType::U8];
-        let locations = [Loc::Stack(0), Loc::Stack(8), Loc::Stack(16), Loc::Stack(20)];
-        assert!(rt; passes_at::<Walk>(&types, &locations, 24));
-    }
-
-    #[test]
-    fn one_short_has_the_four_registers(rt: HostRuntime) {
-        let types = [CType::Ptr, CType::I16];
-        let locations = [Loc::Stack(0), Loc::Stack(4)];
-        assert!(rt; passes_at::<Walk>(&types, &locations, 16));
-    }
 }

@@ -1,4 +1,5 @@
--- The frame of a call conforms to its values, and a conforming frame gives their canonical patterns.
+-- The frame of a call conforms to its values, and a conforming frame gives their canonical
+-- patterns.
 use Rattle.std.proofs.Common.{◌≡◌, ℕ, suc, zero, ◌+◌, ◌*◌, ◌%◌, ◌^◌, ◌<◌, List, [], ◌∷◌, length, take, ap, subst, sym, ◌∙◌, refl, arith}
 use Rattle.std.specs.List.{slice_index}
 use Rattle.std.proofs.lemmas.List.FromFn.{length-map-range_with_len}
@@ -14,14 +15,18 @@ use Rattle.call_model.proofs.Patterns.{canon-own, own-fits, same-low_bytes}
 use Rattle.call_model.proofs.PlacedFrames.{holds-each, shorter-slice}
 
 -- the canonical patterns, one for each value
-pub length-canon_all : (conv : Conv) (types : List CType) (values : List ℕ) → length types ≡ length values → length (canon_all conv types values) ≡ length values
+pub length-canon_all : (conv : Conv) (types : List CType) (values : List ℕ)
+    → length types ≡ length values → length (canon_all conv types values) ≡ length values
 length-canon_all conv [] [] e = refl
 length-canon_all conv [] (v ∷ values) e = absurd (omega (arith, e))
 length-canon_all conv (t ∷ types) [] e = refl
 length-canon_all conv (t ∷ types) (v ∷ values) e =
     omega (arith, length-canon_all conv types values (omega (arith, e)))
 
-pub canon_all-at : (conv : Conv) (types : List CType) (values : List ℕ) (i : ℕ) → length types ≡ length values → i < length types → slice_index (canon_all conv types values) i ≡ canon conv (type_at types i) (slice_index values i)
+pub canon_all-at : (conv : Conv) (types : List CType) (values : List ℕ) (i : ℕ)
+    → length types ≡ length values → i < length types
+    → slice_index (canon_all conv types values) i ≡ canon conv (type_at types i)
+    (slice_index values i)
 canon_all-at conv [] values i e lt = absurd (omega (arith, lt))
 canon_all-at conv (t ∷ types) [] i e lt = absurd (omega (arith, e))
 canon_all-at conv (t ∷ types) (v ∷ values) zero e lt = refl
@@ -29,7 +34,11 @@ canon_all-at conv (t ∷ types) (v ∷ values) (suc i) e lt =
     canon_all-at conv types values i (omega (arith, e)) (omega (arith, lt))
 
 -- values that are canonical are their own patterns
-pub canon_all-canonical : (conv : Conv) (types : List CType) (values : List ℕ) → length types ≡ length values → ((i : ℕ) → i < length types → canon conv (type_at types i) (slice_index values i) ≡ slice_index values i) → canon_all conv types values ≡ values
+pub canon_all-canonical : (conv : Conv) (types : List CType) (values : List ℕ)
+    → length types ≡ length values
+    →
+    ((i : ℕ) → i < length types → canon conv (type_at types i) (slice_index values i) ≡ slice_index values i)
+    → canon_all conv types values ≡ values
 canon_all-canonical conv [] [] e are = refl
 canon_all-canonical conv [] (v ∷ values) e are = absurd (omega (arith, e))
 canon_all-canonical conv (t ∷ types) [] e are = absurd (omega (arith, e))

@@ -16,12 +16,16 @@ range-more a zero = ap (λ k. k ∷ []) (omega arith)
 range-more a (suc n) = ap (λ ks. a ∷ ks) (range-more (a + 1) n ∙ ap (λ k. range_with_len (a + 1) n ++ k ∷ []) (omega arith))
 
 -- one argument more finds no register exactly where its class has used them all up
-one-more : (gprs fprs i f : ℕ) (b : Bool) → (i - gprs) + (f - fprs) + cond (cond b (nat_le fprs f) (nat_le gprs i)) 1 0 ≡ (i + cond (not b) 1 0 - gprs) + (f + cond b 1 0 - fprs)
+one-more : (gprs fprs i f : ℕ) (b : Bool)
+    → (i - gprs) + (f - fprs) + cond (cond b (nat_le fprs f) (nat_le gprs i)) 1 0 ≡
+    (i + cond (not b) 1 0 - gprs) + (f + cond b 1 0 - fprs)
 one-more gprs fprs i f true = grind (arith, common_steps)
 one-more gprs fprs i f false = grind (arith, common_steps)
 
 -- how many of the first n arguments find no register
-counted : (gprs fprs : ℕ) (types : List CType) (n : ℕ) → n ≤ length types → count_by (finds_no_register gprs fprs types) (range_with_len 0 n) ≡ (integers (take n types) - gprs) + (floats (take n types) - fprs)
+counted : (gprs fprs : ℕ) (types : List CType) (n : ℕ) → n ≤ length types
+    → count_by (finds_no_register gprs fprs types) (range_with_len 0 n) ≡
+    (integers (take n types) - gprs) + (floats (take n types) - fprs)
 counted gprs fprs types zero le = omega arith
 counted gprs fprs types (suc n) le =
     let ints : integers (take (suc n) types) ≡ integers (take n types) + cond (not (is_float (type_at types n))) 1 0

@@ -10,7 +10,8 @@ use Rattle.call_model.specs.declared.tables.Table.{Table}
 use Rattle.call_model.specs.Tables.{iface_at, slots_in, parent_in, own_slots, parent_of, lineage_within, lineage_of, HasShortLineage, descends_from, DescendsByParents, slots_within, slots_of, HasSlotsOfParent}
 
 -- a lineage that ends before n has nothing more at n + 1
-lineage-ends : (ifaces : List TableIface) (n k : ℕ) → length (lineage_within ifaces (suc n) k) ≤ n → lineage_within ifaces (suc n) k ≡ lineage_within ifaces n k
+lineage-ends : (ifaces : List TableIface) (n k : ℕ) → length (lineage_within ifaces (suc n) k) ≤ n
+    → lineage_within ifaces (suc n) k ≡ lineage_within ifaces n k
 unfolding lineage_within
 lineage-ends ifaces zero zero short = refl
 lineage-ends ifaces zero (suc k) short = absurd (omega (arith, short))
@@ -19,7 +20,8 @@ lineage-ends ifaces (suc n) (suc k) short =
     ap (λ ks. suc k ∷ ks) (lineage-ends ifaces n (parent_in (iface_at ifaces (suc k))) (omega (arith, short)))
 
 -- a lineage of fewer than n interfaces has ended
-lineage-whole : (ifaces : List TableIface) (n k : ℕ) → length (lineage_within ifaces n k) < n → lineage_within ifaces (suc n) k ≡ lineage_within ifaces n k
+lineage-whole : (ifaces : List TableIface) (n k : ℕ) → length (lineage_within ifaces n k) < n
+    → lineage_within ifaces (suc n) k ≡ lineage_within ifaces n k
 unfolding lineage_within
 lineage-whole ifaces zero k short = absurd (omega (arith, short))
 lineage-whole ifaces (suc n) zero short = refl
@@ -32,7 +34,8 @@ unfolding slots_within
 no-slots ifaces zero = refl
 no-slots ifaces (suc n) = ap (λ slots. slots ++ []) (no-slots ifaces n)
 
-slots-end : (ifaces : List TableIface) (n k : ℕ) → length (lineage_within ifaces (suc n) k) ≤ n → slots_within ifaces (suc n) k ≡ slots_within ifaces n k
+slots-end : (ifaces : List TableIface) (n k : ℕ) → length (lineage_within ifaces (suc n) k) ≤ n
+    → slots_within ifaces (suc n) k ≡ slots_within ifaces n k
 unfolding lineage_within slots_within
 slots-end ifaces zero zero short = refl
 slots-end ifaces zero (suc k) short = absurd (omega (arith, short))
@@ -41,7 +44,9 @@ slots-end ifaces (suc n) (suc k) short =
     ap (λ slots. slots ++ slots_in (iface_at ifaces (suc k))) (slots-end ifaces n (parent_in (iface_at ifaces (suc k))) (omega (arith, short)))
 
 -- there are as many slots as the interfaces of the lineage have
-slots-counted : (ifaces : List TableIface) (n k : ℕ) → length (slots_within ifaces n k) ≡ sum_by (λ j. length (slots_in (iface_at ifaces j))) (lineage_within ifaces n k)
+slots-counted : (ifaces : List TableIface) (n k : ℕ)
+    → length (slots_within ifaces n k) ≡ sum_by (λ j. length (slots_in (iface_at ifaces j)))
+    (lineage_within ifaces n k)
 unfolding lineage_within slots_within
 slots-counted ifaces zero k = refl
 slots-counted ifaces (suc n) zero = ap length (no-slots ifaces (suc n))
@@ -50,12 +55,14 @@ slots-counted ifaces (suc n) (suc k) =
     ∙ omega (arith, slots-counted ifaces n (parent_in (iface_at ifaces (suc k))), sum_by-cons (λ j. length (slots_in (iface_at ifaces j))) (suc k) (lineage_within ifaces n (parent_in (iface_at ifaces (suc k)))))
 
 -- the lineage of the parent of one that ends goes one step less far
-parent-ends : (table : Table) (number : ℕ) → HasShortLineage table number → length (lineage_within table.ifaces 250 (parent_of table number)) ≤ 249
+parent-ends : (table : Table) (number : ℕ) → HasShortLineage table number
+    → length (lineage_within table.ifaces 250 (parent_of table number)) ≤ 249
 unfolding lineage_within
 parent-ends table zero short = omega arith
 parent-ends table (suc k) short = omega (arith, short)
 
-pub has-slots-of-parent : (table : Table) (number : ℕ) → HasShortLineage table number → HasSlotsOfParent table number
+pub has-slots-of-parent : (table : Table) (number : ℕ) → HasShortLineage table number
+    → HasSlotsOfParent table number
 unfolding slots_within
 has-slots-of-parent table number short =
     let parent : slots_of table (parent_of table number) ≡ slots_within table.ifaces 249 (parent_of table number) = slots-end table.ifaces 249 (parent_of table number) (parent-ends table number short) in
@@ -67,7 +74,8 @@ has-slots-of-parent table number short =
     }
 
 -- no lineage has 0
-zero-is-none : (ifaces : List TableIface) (n k : ℕ) → list_any (λ j. j == 0) (lineage_within ifaces n k) ≡ false
+zero-is-none : (ifaces : List TableIface) (n k : ℕ)
+    → list_any (λ j. j == 0) (lineage_within ifaces n k) ≡ false
 unfolding lineage_within
 zero-is-none ifaces zero k = refl
 zero-is-none ifaces (suc n) zero = refl
@@ -79,7 +87,9 @@ unfolding lineage_within
 itself table zero some = absurd (omega (arith, some))
 itself table (suc k) some = grind (arith, common_steps)
 
-through : (table : Table) (number : ℕ) → HasShortLineage table number → 0 < number → (from : ℕ) → descends_from table number from ≡ (number == from) || descends_from table (parent_of table number) from
+through : (table : Table) (number : ℕ) → HasShortLineage table number → 0 < number → (from : ℕ)
+    → descends_from table number from ≡ (number == from) || descends_from table
+    (parent_of table number) from
 unfolding lineage_within
 through table zero short some from = absurd (omega (arith, some))
 through table (suc k) short some from =

@@ -29,7 +29,8 @@ own-fits Aapcs32 I8 = omega arith
 own-fits Aapcs32 t = omega arith
 
 -- a pointer's pattern is its own bytes
-word-own : (conv : Conv) (v : ℕ) → canon conv Ptr v % 2 ^ (8 * word_of conv) ≡ v % 2 ^ (8 * word_of conv)
+word-own : (conv : Conv) (v : ℕ)
+    → canon conv Ptr v % 2 ^ (8 * word_of conv) ≡ v % 2 ^ (8 * word_of conv)
 word-own SysV64 v = omega arith
 word-own I386 v = omega arith
 word-own Aapcs64 v = omega arith
@@ -37,7 +38,8 @@ word-own Ms64 v = omega arith
 word-own Aapcs32 v = omega arith
 
 -- a canonical pattern has the value's own bytes
-pub canon-own : (conv : Conv) (t : CType) (v : ℕ) → canon conv t v % 2 ^ (8 * own_len conv t) ≡ v % 2 ^ (8 * own_len conv t)
+pub canon-own : (conv : Conv) (t : CType) (v : ℕ)
+    → canon conv t v % 2 ^ (8 * own_len conv t) ≡ v % 2 ^ (8 * own_len conv t)
 canon-own conv I8 v = grind (arith, common_steps)
 canon-own conv I16 v = grind (arith, common_steps)
 canon-own conv I32 v = grind (arith, common_steps)
@@ -62,7 +64,8 @@ canon-below conv Ptr v = word-below conv v
 canon-below conv t v = omega arith
 
 -- values with the same own bytes have one canonical pattern
-pub canon-same : (conv : Conv) (t : CType) (a b : ℕ) → a % 2 ^ (8 * own_len conv t) ≡ b % 2 ^ (8 * own_len conv t) → canon conv t a ≡ canon conv t b
+pub canon-same : (conv : Conv) (t : CType) (a b : ℕ)
+    → a % 2 ^ (8 * own_len conv t) ≡ b % 2 ^ (8 * own_len conv t) → canon conv t a ≡ canon conv t b
 canon-same conv t a b e = ap (extended conv t) e
 
 -- the canonical pattern of a canonical pattern is itself
@@ -70,5 +73,6 @@ pub canon-canon : (conv : Conv) (t : CType) (v : ℕ) → canon conv t (canon co
 canon-canon conv t v = canon-same conv t (canon conv t v) v (canon-own conv t v)
 
 -- what stands of a value in its own bytes gives its canonical pattern
-pub extended-own : (conv : Conv) (t : CType) (own v : ℕ) → own ≡ v % 2 ^ (8 * own_len conv t) → extended conv t own ≡ canon conv t v
+pub extended-own : (conv : Conv) (t : CType) (own v : ℕ) → own ≡ v % 2 ^ (8 * own_len conv t)
+    → extended conv t own ≡ canon conv t v
 extended-own conv t own v e = ap (extended conv t) e

@@ -48,7 +48,11 @@ slice-is xs at n v fits each =
     (λ k lt. let below : k < n = omega (arith, lt, long) in slice-byte xs at n k below ∙ each k below)
 
 -- arguments in two parts
-pub arguments_after-append : (conv : Conv) (earlier types more : List CType) (patterns others : List ℕ) → length types ≡ length patterns → arguments_after conv earlier (types ++ more) (patterns ++ others) ≡ arguments_after conv earlier types patterns ++ arguments_after conv (earlier ++ types) more others
+pub arguments_after-append : (conv : Conv) (earlier types more : List CType)
+    (patterns others : List ℕ)
+    → length types ≡ length patterns
+    → arguments_after conv earlier (types ++ more) (patterns ++ others) ≡ arguments_after conv
+    earlier types patterns ++ arguments_after conv (earlier ++ types) more others
 arguments_after-append conv earlier [] more [] others e = ap (λ es. arguments_after conv es more others) (sym (append-nil earlier))
 arguments_after-append conv earlier [] more (p ∷ patterns) others e = absurd (omega (arith, e))
 arguments_after-append conv earlier (t ∷ types) more [] others e = absurd (omega (arith, e))
@@ -58,12 +62,20 @@ arguments_after-append conv earlier (t ∷ types) more (p ∷ patterns) others e
     ∙ ap (λ es. arguments_after conv (earlier ++ t ∷ []) types patterns ++ arguments_after conv es more others) (append_assoc earlier (t ∷ []) types))
 
 -- the arguments with one more
-pub arguments-push : (conv : Conv) (types : List CType) (patterns : List ℕ) (t : CType) (p : ℕ) → length types ≡ length patterns → arguments conv (types ++ t ∷ []) (patterns ++ p ∷ []) ≡ arguments conv types patterns ++ argument conv types t p ∷ []
+pub arguments-push : (conv : Conv) (types : List CType) (patterns : List ℕ) (t : CType) (p : ℕ)
+    → length types ≡ length patterns
+    → arguments conv (types ++ t ∷ []) (patterns ++ p ∷ []) ≡ arguments conv types patterns ++
+    argument conv types t p ∷ []
 arguments-push conv types patterns t p e =
     arguments_after-append conv [] types (t ∷ []) patterns (p ∷ []) e
 
--- arguments after one keep what it put into a register or a byte, if no location after its own changes that
-pub fold-kept : (conv : Conv) (earlier : List CType) (t : CType) (between types : List CType) (patterns : List ℕ) (f : ℕ → Argument → ℕ) (start : ℕ) → ((other : ℕ) (a : Argument) → StandsBefore (place conv earlier t) (space_of conv t) a.at → f other a ≡ other) → fold f start (arguments_after conv (earlier ++ t ∷ between) types patterns) ≡ start
+-- arguments after one keep what it put into a register or a byte, if no location after its own
+-- changes that
+pub fold-kept : (conv : Conv) (earlier : List CType) (t : CType) (between types : List CType)
+    (patterns : List ℕ) (f : ℕ → Argument → ℕ) (start : ℕ)
+    →
+    ((other : ℕ) (a : Argument) → StandsBefore (place conv earlier t) (space_of conv t) a.at → f other a ≡ other)
+    → fold f start (arguments_after conv (earlier ++ t ∷ between) types patterns) ≡ start
 fold-kept conv earlier t between [] patterns f start keeps = refl
 fold-kept conv earlier t between (u ∷ types) [] f start keeps = refl
 fold-kept conv earlier t between (u ∷ types) (p ∷ patterns) f start keeps =
@@ -74,24 +86,33 @@ fold-kept conv earlier t between (u ∷ types) (p ∷ patterns) f start keeps =
     ∙ fold-kept conv earlier t (between ++ u ∷ []) types patterns f start keeps
 
 -- so the arguments leave what the one in the middle put there
-pub fold-middle : (conv : Conv) (earlier : List CType) (t : CType) (later : List CType) (before : List ℕ) (p : ℕ) (after : List ℕ) (f : ℕ → Argument → ℕ) → length earlier ≡ length before → ((other : ℕ) (a : Argument) → StandsBefore (place conv earlier t) (space_of conv t) a.at → f other a ≡ other) → fold f 0 (arguments conv (earlier ++ t ∷ later) (before ++ p ∷ after)) ≡ f (fold f 0 (arguments conv earlier before)) (argument conv earlier t p)
+pub fold-middle : (conv : Conv) (earlier : List CType) (t : CType) (later : List CType)
+    (before : List ℕ) (p : ℕ) (after : List ℕ) (f : ℕ → Argument → ℕ)
+    → length earlier ≡ length before
+    →
+    ((other : ℕ) (a : Argument) → StandsBefore (place conv earlier t) (space_of conv t) a.at → f other a ≡ other)
+    → fold f 0 (arguments conv (earlier ++ t ∷ later) (before ++ p ∷ after)) ≡ f
+    (fold f 0 (arguments conv earlier before)) (argument conv earlier t p)
 fold-middle conv earlier t later before p after f e keeps =
     ap (fold f 0) (arguments_after-append conv [] earlier (t ∷ later) before (p ∷ after) e)
     ∙ fold-append f 0 (arguments conv earlier before) _
     ∙ fold-kept conv earlier t [] later after f (f (fold f 0 (arguments conv earlier before)) (argument conv earlier t p)) keeps
 
 -- what stands before another location is not changed by it
-gpr-keeps : (r : ℕ) (loc other : Loc) (space n p : ℕ) → loc ≡ Gpr r → StandsBefore loc space other → gpr_at r n other p ≡ n
+gpr-keeps : (r : ℕ) (loc other : Loc) (space n p : ℕ) → loc ≡ Gpr r → StandsBefore loc space other
+    → gpr_at r n other p ≡ n
 gpr-keeps r loc (Gpr s) space n p is before = let lt : r < s = subst (λ l. StandsBefore l space (Gpr s)) is before in grind (arith, common_steps)
 gpr-keeps r loc (Fpr s) space n p is before = refl
 gpr-keeps r loc (Stack at) space n p is before = refl
 
-fpr-keeps : (r : ℕ) (loc other : Loc) (space n p : ℕ) → loc ≡ Fpr r → StandsBefore loc space other → fpr_at r n other p ≡ n
+fpr-keeps : (r : ℕ) (loc other : Loc) (space n p : ℕ) → loc ≡ Fpr r → StandsBefore loc space other
+    → fpr_at r n other p ≡ n
 fpr-keeps r loc (Gpr s) space n p is before = refl
 fpr-keeps r loc (Fpr s) space n p is before = let lt : r < s = subst (λ l. StandsBefore l space (Fpr s)) is before in grind (arith, common_steps)
 fpr-keeps r loc (Stack at) space n p is before = refl
 
-byte-keeps : (at k : ℕ) (loc other : Loc) (space wide n p : ℕ) → loc ≡ Stack at → k < space → StandsBefore loc space other → byte_at (at + k) n other wide p ≡ n
+byte-keeps : (at k : ℕ) (loc other : Loc) (space wide n p : ℕ) → loc ≡ Stack at → k < space
+    → StandsBefore loc space other → byte_at (at + k) n other wide p ≡ n
 byte-keeps at k loc (Gpr s) space wide n p is lt before = refl
 byte-keeps at k loc (Fpr s) space wide n p is lt before = refl
 byte-keeps at k loc (Stack next) space wide n p is lt before = let le : at + space ≤ next = subst (λ l. StandsBefore l space (Stack next)) is before in grind (arith, common_steps)
@@ -118,7 +139,11 @@ registers-at-most Ms64 = (omega arith, omega arith)
 registers-at-most Aapcs32 = (omega arith, omega arith)
 
 -- the frame of patterns holds the one in the middle at the place of its type
-holds-middle : (conv : Conv) (earlier : List CType) (t : CType) (later : List CType) (before : List ℕ) (p : ℕ) (after : List ℕ) → length earlier ≡ length before → (loc : Loc) → place conv earlier t ≡ loc → HoldsPattern (frame_of conv (earlier ++ t ∷ later) (before ++ p ∷ after)) (space_of conv t) p loc
+holds-middle : (conv : Conv) (earlier : List CType) (t : CType) (later : List CType)
+    (before : List ℕ) (p : ℕ) (after : List ℕ)
+    → length earlier ≡ length before → (loc : Loc) → place conv earlier t ≡ loc
+    → HoldsPattern (frame_of conv (earlier ++ t ∷ later) (before ++ p ∷ after)) (space_of conv t) p
+    loc
 holds-middle conv earlier t later before p after e (Gpr r) is =
     let within : r < gprs_of conv = subst (λ l. IsWithin conv (stack_len_of conv (earlier ++ t ∷ later)) l (space_of conv t)) is (places-within conv earlier t later) in
     get_or-map-range_with_len (gpr_of (arguments conv (earlier ++ t ∷ later) (before ++ p ∷ after))) 0 8 r r 0 (omega (arith, (registers-at-most conv).0)) (omega arith)
@@ -142,10 +167,12 @@ holds-middle conv earlier t later before p after e (Stack at) is =
     ∙ byte-put at k _ (space_of conv t) p lt)
 
 -- a list is what comes before a place, the element there, and the rest
-split-at : {X : Type 0} (xs : List X) (i : ℕ) (d : X) → i < length xs → take i xs ++ get_or xs i d ∷ drop (suc i) xs ≡ xs
+split-at : {X : Type 0} (xs : List X) (i : ℕ) (d : X) → i < length xs
+    → take i xs ++ get_or xs i d ∷ drop (suc i) xs ≡ xs
 split-at xs i d lt = ap (λ ys. take i xs ++ ys) (sym (drop-cons xs i d lt)) ∙ take-append-drop i xs
 
-pub holds-each : (conv : Conv) (types : List CType) (patterns : List ℕ) → length types ≡ length patterns
+pub holds-each : (conv : Conv) (types : List CType) (patterns : List ℕ)
+    → length types ≡ length patterns
     → HoldsEach conv types patterns (frame_of conv types patterns)
 holds-each conv types patterns e i lt =
     let in_patterns : i < length patterns = omega (arith, e, lt) in
@@ -157,7 +184,11 @@ holds-each conv types patterns e i lt =
     (holds-middle conv (take i types) (type_at types i) (drop (suc i) types) (take i patterns) (slice_index patterns i) (drop (suc i) patterns) same_front (place_at conv types i) refl)
 
 -- arguments that leave a register or a byte alone leave it as it was
-fold-untouched : (conv : Conv) (earlier types : List CType) (patterns : List ℕ) (f : ℕ → Argument → ℕ) (start : ℕ) → ((i : ℕ) → i < length types → (other p : ℕ) → f other (argument conv (earlier ++ take i types) (type_at types i) p) ≡ other) → fold f start (arguments_after conv earlier types patterns) ≡ start
+fold-untouched : (conv : Conv) (earlier types : List CType) (patterns : List ℕ)
+    (f : ℕ → Argument → ℕ) (start : ℕ)
+    →
+    ((i : ℕ) → i < length types → (other p : ℕ) → f other (argument conv (earlier ++ take i types) (type_at types i) p) ≡ other)
+    → fold f start (arguments_after conv earlier types patterns) ≡ start
 fold-untouched conv earlier [] patterns f start leaves = refl
 fold-untouched conv earlier (t ∷ types) [] f start leaves = refl
 fold-untouched conv earlier (t ∷ types) (p ∷ patterns) f start leaves =
@@ -178,7 +209,8 @@ fpr-untouched r n p (Gpr s) ne = refl
 fpr-untouched r n p (Fpr s) ne = elim (eqb_tells r s) [ inl h ↦ absurd (ne (ap Fpr (sym h.1))) | inr h ↦ ap (λ b. cond b p n) h.0 ]
 fpr-untouched r n p (Stack at) ne = refl
 
-outside : (b n p at end q : ℕ) → ((at ≤ b) × (b < end) → ⊥) → cond (nat_le at b && nat_lt b end) q n ≡ n
+outside : (b n p at end q : ℕ) → ((at ≤ b) × (b < end) → ⊥)
+    → cond (nat_le at b && nat_lt b end) q n ≡ n
 outside b n p at end q not_in = grind (arith, common_steps)
 
 byte-untouched : (b n space p : ℕ) (loc : Loc) → ¬ Covers loc space b → byte_at b n loc space p ≡ n
@@ -206,7 +238,8 @@ is-zero-elsewhere conv types patterns =
           (λ _. fold-untouched conv [] types patterns (λ other a. byte_at b other a.at a.space a.pattern) 0 (λ i lt other p. byte-untouched b other (space_at conv types i) p (place_at conv types i) (none i lt)));
     }
 
-pub holds-arguments : (conv : Conv) (types : List CType) (patterns : List ℕ) → length types ≡ length patterns
+pub holds-arguments : (conv : Conv) (types : List CType) (patterns : List ℕ)
+    → length types ≡ length patterns
     → HoldsArguments conv types patterns (frame_of conv types patterns)
 holds-arguments conv types patterns e =
     let args : List Argument = arguments conv types patterns in

@@ -168,7 +168,7 @@ module _ (conv : Conv) (types : List CType) (patterns : List ℕ) (one other : F
       ∙ ap (λ stack. record { gprs = other.gprs; fprs = other.fprs; stack = stack })
       (ext_get_or 0 one.stack other.stack (f.stack_is ∙ sym g.stack_is) (λ b lt. same-byte b))
 
-pub is-the-frame : (conv : Conv) (types : List CType) (patterns : List ℕ) → IsTheFrame conv types patterns
+pub is-the-frame : (conv : Conv) → IsTheFrame conv
 is-the-frame conv types patterns e frame = (
   λ holds. same-frame conv types patterns frame (frame_of conv types patterns) holds (holds-arguments conv types patterns e),
   λ is. subst (HoldsArguments conv types patterns) (sym is) (holds-arguments conv types patterns e),

@@ -4,3 +4,4 @@ pub mod Prototype
 pub mod Tables
 pub mod Types
 pub mod Values
+pub mod Walks

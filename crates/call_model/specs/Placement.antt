@@ -5,7 +5,7 @@
 -- procedure call standard for the Arm 64-bit architecture, part 6.8.2. Ms64: Microsoft x64 calling
 -- convention, "Parameter passing". Aapcs32: procedure call standard for the Arm architecture, part
 -- 6.5, base standard with soft float.
-use Rattle.std.specs.Prelude.{◌≡◌, ◌≢◌, ◌⊎◌, ℕ, ◌+◌, ◌*◌, ◌-◌, ◌/◌, ◌%◌, ◌<◌, ◌≤◌, ◌&&◌, Bool, true, false, nat_lt, nat_le, nat_eq, max, take, count_by, List, [], ◌∷◌, ◌++◌, length, sum_by, fold, if◌then◌else◌}
+use Rattle.std.specs.Prelude.{◌≡◌, ◌≢◌, ◌⊎◌, ℕ, ◌+◌, ◌*◌, ◌-◌, ◌/◌, ◌%◌, ◌<◌, ◌≤◌, ◌&&◌, Bool, true, false, nat_lt, nat_le, nat_eq, max, take, count_by, List, [], ◌∷◌, ◌++◌, length, sum_by, fold, slice_get, EachIndex, Some, if◌then◌else◌}
 use Rattle.std.specs.List.{range_with_len, slice_index_or}
 use Rattle.call_model.specs.declared.ctypes.CType.{CType}
 use Rattle.call_model.specs.declared.ctypes.CType.TheVariants.{I8}
@@ -88,9 +88,13 @@ place_by_position i false = if nat_lt i (gprs_of Ms64) then Gpr i else Stack (po
 abbrev pub rounded : ℕ → CType → ℕ
 rounded at t = if is_wide t then (at + 7) / 8 * 8 else at
 
+-- where an argument of the type ends that begins there
+abbrev pub rounded_end : ℕ → CType → ℕ
+rounded_end at t = rounded at t + four_or_eight t
+
 -- where the arguments end in the area of r0 to r3 and the stack after them
 abbrev pub area_end : List CType → ℕ
-area_end types = fold (λ at t. rounded at t + four_or_eight t) 0 types
+area_end types = fold (λ at t. rounded_end at t) 0 types
 
 -- the place of an argument by class after arguments of these types, and their stack
 abbrev pub class_place : Conv → List CType → CType → Loc
@@ -127,6 +131,12 @@ place_at conv types i = place conv (take i types) (type_at types i)
 -- the bytes that it takes on the stack
 abbrev pub space_at : Conv → List CType → ℕ → ℕ
 space_at conv types i = space_of conv (type_at types i)
+
+-- arguments of these types are passed at these locations, with a stack of so many bytes
+abbrev pub PassesAt : Conv → List CType → List Loc → (stack_len : ℕ) → Type 0
+PassesAt conv types locations stack_len =
+    EachIndex types (λ i. slice_get locations i ≡ Some (place_at conv types i))
+    × (stack_len ≡ stack_len_of conv types)
 
 -- ---- laws of places
 

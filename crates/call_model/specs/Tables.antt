@@ -1,5 +1,5 @@
--- What a table of interfaces says: the lineage of an interface, its slots, and where a member of it stands. A number of an
--- interface counts from 1, and 0 is the number of none.
+-- What a table of interfaces says: the lineage of an interface, its slots, and where a member of
+-- it stands. A number of an interface counts from 1, and 0 is the number of none.
 use Rattle.std.specs.Prelude.{◌≡◌, ℕ, zero, suc, ◌+◌, ◌<◌, ◌≤◌, ◌==◌, ◌&&◌, ◌||◌, Bool, true, false, List, [], ◌∷◌, ◌++◌, length, slice_get, Option, Some, None, option_map, sum_by}
 use Rattle.std.specs.List.{list_any, position}
 use Rattle.std.specs.Str.{bytes_eq}
@@ -28,6 +28,9 @@ parent_in (Some i) = i.parent
 abbrev pub own_slots : Table → ℕ → List TableSlot
 own_slots table number = slots_in (iface_at table.ifaces number)
 
+abbrev pub own_count : Table → ℕ → ℕ
+own_count table number = length (own_slots table number)
+
 abbrev pub parent_of : Table → ℕ → ℕ
 parent_of table number = parent_in (iface_at table.ifaces number)
 
@@ -48,14 +51,16 @@ iface_with_iid table iid = first_resolved (λ (i : TableIface). bytes_eq i.iid i
 
 -- ---- lineages
 
--- the numbers of an interface, of its parent, of that one's parent and so on: the first n, or all where they end before
+-- the numbers of an interface, of its parent, of that one's parent and so on: the first n, or all
+-- where they end before
 unfoldable pub lineage_within : List TableIface → ℕ → ℕ → List ℕ
 lineage_within ifaces zero number = []
 lineage_within ifaces (suc n) zero = []
 lineage_within ifaces (suc n) (suc k) =
     suc k ∷ lineage_within ifaces n (parent_in (iface_at ifaces (suc k)))
 
--- an interface and its ancestors, the nearest first; where there are more than 250 or they are cyclic, the first 251
+-- an interface and its ancestors, the nearest first; where there are more than 250 or they are
+-- cyclic, the first 251
 abbrev pub lineage_of : Table → ℕ → List ℕ
 lineage_of table number = lineage_within table.ifaces 251 number
 
@@ -63,19 +68,26 @@ lineage_of table number = lineage_within table.ifaces 251 number
 abbrev pub HasShortLineage : Table → ℕ → Type 0
 HasShortLineage table number = length (lineage_of table number) ≤ 250
 
--- whether an interface is `from`, or has it among its ancestors. Nothing descends from 0, which is no interface
+-- whether an interface is `from`, or has it among its ancestors. Nothing descends from 0, which is
+-- no interface
 abbrev pub descends_from : Table → (number from : ℕ) → Bool
 descends_from table number from = list_any (λ n. n == from) (lineage_of table number)
 
--- an interface descends from itself and from all that its parent descends from, and nothing descends from 0
+abbrev pub parent_descends : Table → (number from : ℕ) → Bool
+parent_descends table number from = descends_from table (parent_of table number) from
+
+-- an interface descends from itself and from all that its parent descends from, and nothing
+-- descends from 0
 pub record DescendsByParents (table : Table) (number : ℕ) : Type 0 where
   pub none : descends_from table number 0 ≡ false
   pub itself : 0 < number → descends_from table number number ≡ true
-  pub through : HasShortLineage table number → 0 < number → (from : ℕ) → descends_from table number from ≡ (number == from) || descends_from table (parent_of table number) from
+  pub through : HasShortLineage table number → 0 < number → (from : ℕ)
+      → descends_from table number from ≡ (number == from) || parent_descends table number from
 
 -- ---- slots
 
--- the slots of an interface whose lineage has at most n interfaces: those of its parent, then its own
+-- the slots of an interface whose lineage has at most n interfaces: those of its parent, then its
+-- own
 unfoldable pub slots_within : List TableIface → ℕ → ℕ → List TableSlot
 slots_within ifaces zero number = []
 slots_within ifaces (suc n) number =
@@ -85,19 +97,23 @@ slots_within ifaces (suc n) number =
 abbrev pub slots_of : Table → ℕ → List TableSlot
 slots_of table number = slots_within table.ifaces 250 number
 
+abbrev pub parent_slots : Table → ℕ → List TableSlot
+parent_slots table number = slots_of table (parent_of table number)
+
 -- the first own slot: as many stand before it as the parent has
 abbrev pub first_slot : Table → ℕ → ℕ
-first_slot table number = length (slots_of table (parent_of table number))
+first_slot table number = length (parent_slots table number)
 
 -- one past the last slot
 abbrev pub end_slot : Table → ℕ → ℕ
 end_slot table number = length (slots_of table number)
 
--- the slots are the parent's and then the own; they end behind the own ones, and are as many as the lineage has
+-- the slots are the parent's and then the own; they end behind the own ones, and are as many as
+-- the lineage has
 pub record HasSlotsOfParent (table : Table) (number : ℕ) : Type 0 where
-  pub slots : slots_of table number ≡ slots_of table (parent_of table number) ++ own_slots table number
-  pub ends : end_slot table number ≡ first_slot table number + length (own_slots table number)
-  pub counted : end_slot table number ≡ sum_by (λ k. length (own_slots table k)) (lineage_of table number)
+  pub slots : slots_of table number ≡ parent_slots table number ++ own_slots table number
+  pub ends : end_slot table number ≡ first_slot table number + own_count table number
+  pub counted : end_slot table number ≡ sum_by (own_count table) (lineage_of table number)
 
 -- ---- members
 

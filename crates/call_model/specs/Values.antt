@@ -1,6 +1,6 @@
--- What stands at the place of an argument: the pattern of a value, the frame that holds the values of
--- a call, which frames hold given values as the convention asks, and which values a frame gives to
--- the one who is called.
+-- What stands at the place of an argument: the pattern of a value, the frame that holds the values
+-- of a call, which frames hold given values as the convention asks, and which values a frame gives
+-- to the one who is called.
 use Rattle.std.specs.Prelude.{◌≡◌, ◌≢◌, ◌↔◌, ℕ, ◌+◌, ◌*◌, ◌-◌, ◌%◌, ◌^◌, ◌<◌, ◌≤◌, nat_lt, nat_le, nat_eq, ◌&&◌, List, [], ◌∷◌, ◌++◌, length, map, fold, slice_index, slice_range, if◌then◌else◌}
 use Rattle.std.specs.List.{range_with_len}
 use Rattle.xp_base.specs.LittleEndian.{low_bytes, number_of}
@@ -177,9 +177,10 @@ pub record HoldsArguments (conv : Conv) (types : List CType) (patterns : List �
   pub elsewhere : IsZeroElsewhere conv types frame
 
 -- the frame of patterns, one for each type, holds them so, and no other frame does
-abbrev pub IsTheFrame : Conv → List CType → List ℕ → Type 0
-IsTheFrame conv types patterns =
-    length types ≡ length patterns → (frame : FrameView)
+abbrev pub IsTheFrame : Conv → Type 0
+IsTheFrame conv =
+    (types : List CType) (patterns : List ℕ) → length types ≡ length patterns
+    → (frame : FrameView)
     → HoldsArguments conv types patterns frame ↔ (frame ≡ frame_of conv types patterns)
 
 -- ---- what the one who is called receives

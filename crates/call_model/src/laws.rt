@@ -1,8 +1,7 @@
 //! Laws of the definitions that the contracts of calls cite. Each function states its law as its
 //! contract and does nothing.
 
-ghost use Rattle.std.specs.Prelude.{◌≡◌, List, ℕ, length};
-ghost use Rattle.call_model.specs.declared.ctypes.CType.{CType};
+ghost use Rattle.std.specs.Prelude.{ℕ};
 ghost use Rattle.call_model.specs.declared.places.Conv.{Conv};
 ghost use Rattle.call_model.specs.declared.places.Conv.TheVariants.{SysV64, Aapcs64};
 ghost use Rattle.call_model.specs.declared.tables.Table.{Table};
@@ -31,7 +30,7 @@ pub fn the_core_registers_are_filled_as_aapcs32_says()
 /// whole space on the stack, and zero in each register and each byte of the stack that belongs to
 /// no argument; and no other frame has.
 pub fn the_frame_of_a_call_is_the_one_that_holds_its_arguments()
-    ensures { (conv : Conv) (types : List CType) (patterns : List ℕ) → IsTheFrame conv types patterns }
+    ensures { (conv : Conv) → IsTheFrame conv }
 {}
 
 /// The frame of a call conforms to the values of the call.

@@ -9,7 +9,8 @@ pub enum Pass {
     ByValue,
     /// The argument is the address of the value.
     ByRef,
-    /// The argument is the address of a cell; `inward` says whether the cell holds a value before the call.
+    /// The argument is the address of a cell; `inward` says whether the cell holds a value before
+    /// the call.
     ByCell { inward: bool },
 }
 
@@ -18,8 +19,8 @@ pub enum Pass {
 pub enum Note {
     /// Nothing.
     Plain,
-    /// An array or a sized string: the argument at position `size` says for how many elements there is room, the one at
-    /// `at` how many are in use, and each element has the type `elem`.
+    /// An array or a sized string: the argument at position `size` says for how many elements
+    /// there is room, the one at `at` how many are in use, and each element has the type `elem`.
     Count { size: u16, at: u16, elem: CType },
     /// An interface whose IID is at the address that the argument at this position gives.
     IidAt(u16),
@@ -31,7 +32,8 @@ pub enum Note {
     Context,
 }
 
-/// One argument of a prototype. For `ByCell`, `ty` is the type of the cell's value; for `ByRef` it is `Ptr`.
+/// One argument of a prototype. For `ByCell`, `ty` is the type of the cell's value; for `ByRef` it
+/// is `Ptr`.
 #[derive(Clone, Copy, Debug, PartialEq, Eq)]
 pub struct ProtoArg {
     pub pass: Pass,
@@ -43,7 +45,8 @@ pub struct ProtoArg {
 impl ProtoArg {
     ghost use Rattle.call_model.specs.Prototype;
 
-    /// The type of what the call passes: the value's own type for `ByValue`, and `Ptr` for the address of a value or a cell.
+    /// The type of what the call passes: the value's own type for `ByValue`, and `Ptr` for the
+    /// address of a value or a cell.
     pub fn passed_type(&self) -> CType
         ensures { result ≡ Prototype.passed_type self.now.pass self.now.ty }
     {

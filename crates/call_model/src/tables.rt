@@ -1,7 +1,8 @@
 use crate::prototypes::{MemberKind, ProtoArg, Status};
 use xp_base::{Bytes, List};
 
-/// One slot of an interface. The prototype is without `this`, and empty where the status is not `Callable`.
+/// One slot of an interface. The prototype is without `this`, and empty where the status is not
+/// `Callable`.
 #[derive(Debug, Drop)]
 pub struct TableSlot {
     pub name: Bytes,
@@ -15,7 +16,8 @@ pub struct TableSlot {
 pub struct TableIface {
     pub name: Bytes,
     pub iid: [u8; 16],
-    /// Whether the interface is defined, and not only declared. One that is not has no slots and no parent.
+    /// Whether the interface is defined, and not only declared. One that is not has no slots and
+    /// no parent.
     pub resolved: bool,
     /// The number of the parent, counted from 1; 0 for none.
     pub parent: u16,

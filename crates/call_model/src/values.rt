@@ -4,7 +4,8 @@ ghost use Rattle.call_model.specs.Values;
 use crate::ctypes::CType;
 use crate::places::{Conv, word_of};
 
-/// How many bytes are a value's own: those that its type needs, whatever the register or the slot has above them.
+/// How many bytes are a value's own: those that its type needs, whatever the register or the slot
+/// has above them.
 pub fn own_len(conv: Conv, ty: CType) -> u32
     ensures { result ≡ Values.own_len conv ty }
 {
@@ -17,8 +18,8 @@ pub fn own_len(conv: Conv, ty: CType) -> u32
     }
 }
 
-/// The canonical pattern of the value whose own bytes are the low bytes of `value`: the bytes above them are filled by
-/// the sign for I8 to I64, and by zeros for all other types.
+/// The canonical pattern of the value whose own bytes are the low bytes of `value`: the bytes above
+/// them are filled by the sign for I8 to I64, and by zeros for all other types.
 pub fn canonical(conv: Conv, ty: CType, value: u64) -> u64
     ensures pattern { result ≡ Values.canon conv ty value }
     ensures stays { Values.canon conv ty result ≡ result }
@@ -47,41 +48,4 @@ fn filled_by_sign(own: u64, half: u64, above: u64) -> u64
     ensures { result ≡ (if nat_lt own half then own else own + above) }
 {
     if own < half { own } else { own + above }
-}
-
-#[cfg(test)]
-mod tests {
-    use super::*;
-
-    #[test]
-    fn canonical_patterns_are_filled_by_type(rt: HostRuntime) {
-        let patterns = [
-            (
-                Conv::SysV64,
-                CType::I16,
-                0xdead_beef_cafe_8001,
-                0xffff_ffff_ffff_8001,
-            ),
-            (Conv::SysV64, CType::I32, 0xffff_ffff, 0xffff_ffff_ffff_ffff),
-            (Conv::SysV64, CType::U8, 0x1ff, 0xff),
-            (Conv::SysV64, CType::WChar, 0x1_fffe, 0xfffe),
-            (Conv::SysV64, CType::Ptr, 0x1_0000_0001, 0x1_0000_0001),
-            (Conv::I386, CType::Ptr, 0x1_0000_0001, 0x1),
-            (
-                Conv::I386,
-                CType::I64,
-                0xffff_ffff_ffff_fffe,
-                0xffff_ffff_ffff_fffe,
-            ),
-        ];
-        for (conv, ty, value, pattern) in patterns {
-            assert_eq!(rt; canonical(conv, ty, value), pattern);
-        }
-    }
-
-    #[test]
-    fn a_pointer_has_a_word(rt: HostRuntime) {
-        assert_eq!(rt; own_len(Conv::Aapcs32, CType::Ptr), 4);
-        assert_eq!(rt; own_len(Conv::Ms64, CType::Ptr), 8);
-    }
 }

@@ -1,5 +1,5 @@
-//! Where the System V ABI for i386 passes arguments: all on the stack, one after the other, 64-bit values in 8 bytes at any
-//! word and all others in 4.
+//! Where the System V ABI for i386 passes arguments: all on the stack, one after the other, 64-bit
+//! values in 8 bytes at any word and all others in 4.
 #![tactic(auto)]
 
 ghost use Rattle.std.specs.Prelude.{◌≡◌, sum_by};
@@ -49,17 +49,4 @@ impl Convention for Walk {
     ghost grows = { stack-grows I386 };
 
     ghost bounded = { stack-is-bounded I386 };
-}
-
-#[cfg(test)]
-mod tests {
-    use super::*;
-    use call_model::passes_at;
-
-    #[test]
-    fn a_long_long_stands_at_any_word(rt: HostRuntime) {
-        let types = [CType::Ptr, CType::I64, CType::Bool, CType::U8];
-        let locations = [Loc::Stack(0), Loc::Stack(4), Loc::Stack(12), Loc::Stack(16)];
-        assert!(rt; passes_at::<Walk>(&types, &locations, 20));
-    }
 }

@@ -19,25 +19,6 @@ use Rattle.typelib_faults.proofs.WalkFacts.{length_values, parts4, parts7, parts
 use Rattle.descriptor_reader.specs.Views.{first_at}
 use Rattle.descriptor_reader.proofs.ViewLaws.{directory_known, library_long}
 
--- ---- a method
-
-pub record KnownMethod (x : List ℕ) (c : Cursor) : Type 0 where
-  pub room : c.items < 1000000
-  pub inside : c.place + 6 ≤ length x
-  pub name : name_fault x (c.place + 1) ≡ None
-  pub params : walk (param_fault x) (param_next x) (params_cursor c) (param_count_at x c.place) ≡ None
-
-pub method_known : (x : List ℕ) (c : Cursor) → method_fault x c ≡ None → KnownMethod x c
-unfolding method_fault
-method_known x c e =
-    let m : (item_fault c ≡ None) × (past x c.place 1 ≡ None) × (past x (c.place + 1) 4 ≡ None) × (name_fault x (c.place + 1) ≡ None) × (past x (c.place + 5) 1 ≡ None) × (walk (param_fault x) (param_next x) (params_cursor c) (param_count_at x c.place) ≡ None) × (result_fault x (params_end x c.place) ≡ None) × (walk (args_fault x (params_at x c.place)) (param_end x) (c.place + 6) (param_count_at x c.place) ≡ None) = parts8 (item_fault c) (past x c.place 1) (past x (c.place + 1) 4) (name_fault x (c.place + 1)) (past x (c.place + 5) 1) (walk (param_fault x) (param_next x) (params_cursor c) (param_count_at x c.place)) (result_fault x (params_end x c.place)) (walk (args_fault x (params_at x c.place)) (param_end x) (c.place + 6) (param_count_at x c.place)) e
-    in record {
-      room = omega (arith, item_room c m.0);
-      inside = omega (arith, past_inside x (c.place + 5) 1 m.4);
-      name = m.3;
-      params = m.5;
-    }
-
 -- ---- a descriptor
 
 -- the entry of a number, at the cursor that it was read at
@@ -104,22 +85,14 @@ descriptor_parts x c e =
     }
 
 -- where its methods end
-pub record IsMethodsEnd (x : List ℕ) (p : ℕ) (end : Cursor) : Type 0 where
-  pub here : end ≡ methods_reach x (first_at p)
-  pub place : end.place ≡ methods_end x p
-  pub counted : end.place + 2 ≤ length x
-  pub constants : walk (constant_fault x) (constant_next x) (constants_cursor end) (half_at x end.place) ≡ None
+pub methods_ended : (x : List ℕ) (p count : ℕ) (from end : Cursor) → from ≡ first_at (p + 4) → count ≡ half_at x (p + 2) → end ≡ reach (method_next x) from count → end ≡ methods_reach x (first_at p)
+methods_ended x p count from end begins counts ends =
+    ends ∙ (ap (λ (c : Cursor). reach (method_next x) c count) begins ∙ ap (reach (method_next x) (first_at (p + 4))) counts)
 
-pub methods_ended : (x : List ℕ) (p count : ℕ) (from end : Cursor) → descriptor_fault x (first_at p) ≡ None → from ≡ first_at (p + 4) → count ≡ half_at x (p + 2) → end ≡ reach (method_next x) from count → IsMethodsEnd x p end
-methods_ended x p count from end e begins counts ends =
-    let here : end ≡ methods_reach x (first_at p) = ends ∙ (ap (λ (c : Cursor). reach (method_next x) c count) begins ∙ ap (reach (method_next x) (first_at (p + 4))) counts)
-    in let known : KnownDescriptor x (first_at p) = descriptor_parts x (first_at p) e
-    in subst (IsMethodsEnd x p) (sym here) (record { here = refl; place = methods_place x (first_at p); counted = known.counted; constants = known.constants })
-
--- where its constants end, and the flags stand
-pub constants_ended : (x : List ℕ) (p count : ℕ) (end last : Cursor) → descriptor_fault x (first_at p) ≡ None → IsMethodsEnd x p end → count ≡ half_at x end.place → last ≡ reach (constant_next x) (constants_cursor end) count → (last.place + 1 ≤ length x) × (last.place ≡ constants_end x p)
-constants_ended x p count end last e is counts ends =
-    let here : last ≡ constants_reach x (first_at p) = ends ∙ (ap (reach (constant_next x) (constants_cursor end)) counts ∙ ap (λ (m : Cursor). reach (constant_next x) (constants_cursor m) (half_at x m.place)) is.here)
+-- where its constants end
+pub constants_ended : (x : List ℕ) (p count : ℕ) (from last : Cursor) → descriptor_fault x (first_at p) ≡ None → from ≡ constants_cursor (methods_reach x (first_at p)) → count ≡ half_at x (methods_reach x (first_at p)).place → last ≡ reach (constant_next x) from count → (last.place + 1 ≤ length x) × (last.place ≡ constants_end x p)
+constants_ended x p count from last e begins counts ends =
+    let here : last ≡ constants_reach x (first_at p) = ends ∙ (ap (λ (c : Cursor). reach (constant_next x) c count) begins ∙ ap (reach (constant_next x) (constants_cursor (methods_reach x (first_at p)))) counts)
     in subst (λ (c : Cursor). (c.place + 1 ≤ length x) × (c.place ≡ constants_end x p)) (sym here) ((descriptor_parts x (first_at p) e).flagged, constants_place x (first_at p))
 
 -- ---- the body of an interface
@@ -156,10 +129,10 @@ pub methods_are : (x : List ℕ) (p : ℕ) → (descriptor_at x p).methods ≡ v
 unfolding descriptor_at
 methods_are x p = refl
 
-pub constants_are : (x : List ℕ) (p count place : ℕ) → place ≡ methods_end x p → count ≡ half_at x place → count ≡ length (descriptor_at x p).constants
+pub constants_are : (x : List ℕ) (p count place : ℕ) → place ≡ methods_end x p + 2 → count ≡ half_at x (methods_end x p) → values (constant_at x) (constant_end x) place count ≡ (descriptor_at x p).constants
 unfolding descriptor_at
 constants_are x p count place there is =
-    is ∙ (ap (half_at x) there ∙ sym (length_values (constant_at x) (constant_end x) (methods_end x p + 2) (half_at x (methods_end x p))))
+    ap (λ (q : ℕ). values (constant_at x) (constant_end x) q count) there ∙ ap (values (constant_at x) (constant_end x) (methods_end x p + 2)) is
 
 pub flags_are : (x : List ℕ) (p last : ℕ) → last ≡ constants_end x p → bit_and (byte_at x last) iface_bits ≡ (descriptor_at x p).flags.bits
 unfolding descriptor_at

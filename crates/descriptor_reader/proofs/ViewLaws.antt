@@ -1,5 +1,5 @@
 -- What is known of a file without a fault when a part of it is read again.
-use Rattle.std.proofs.Common.{◌≡◌, ◌≢◌, ℕ, zero, suc, ◌+◌, ◌-◌, ◌*◌, ◌<◌, ◌≤◌, List, length, Option, Some, None, true, false, arith, refl, sym, ap, ◌∙◌, subst, ltb, lt-ltb, le-ltb, inl, inr, sum_by, eqb, not, take, drop, Bool, get_or, ◌||◌, option_and_then}
+use Rattle.std.proofs.Common.{◌≡◌, ◌≢◌, ℕ, zero, suc, ◌+◌, ◌-◌, ◌*◌, ◌<◌, ◌≤◌, List, [], ◌∷◌, length, Option, Some, None, true, false, arith, refl, sym, ap, ◌∙◌, subst, ltb, lt-ltb, le-ltb, inl, inr, sum_by, eqb, not, take, drop, Bool, get_or, ◌||◌, option_and_then}
 use Rattle.std.specs.Prelude.{All, map, is_some, option_map, ◌&&◌}
 use Rattle.std.specs.List.{list_any, position, position_or_len}
 use Rattle.std.specs.Str.{bytes_eq}
@@ -11,20 +11,23 @@ use Rattle.call_model.specs.declared.prototypes.MemberKind.{MemberKind}
 use Rattle.call_model.specs.Tables.{member_of, member_within}
 use Rattle.lib_model.specs.declared.contents.Iface.{Iface}
 use Rattle.lib_model.specs.declared.contents.Body.{Body}
+use Rattle.lib_model.specs.declared.contents.Method.{Method}
 use Rattle.lib_model.specs.Denotes.{word_at}
 use Rattle.lib_model.specs.declared.contents.Library.{Library}
 use Rattle.lib_model.specs.Table.{methods_of, methods_within, table_iface, table_of}
-use Rattle.lib_model.specs.Valid.{IsChain, body_of, chain_of, first_of_chain, own_slots, parent_in, parent_of}
+use Rattle.lib_model.specs.Valid.{IsChain, IsMethod, IsValid, body_of, chain_of, first_of_chain, own_slots, parent_in, parent_of}
 use Rattle.typelib_faults.specs.Climbs.{climbed, meets, slots_within}
 use Rattle.typelib_faults.specs.declared.cursor.Cursor.{Cursor}
-use Rattle.typelib_faults.specs.Faults.{body_fault, chain_fault, directory_cursor, entry_fault, entry_next, first_fault, header_fault, item_fault, name_fault, namespace_fault}
+use Rattle.typelib_faults.specs.Bytes.{AreBytes}
+use Rattle.typelib_faults.specs.Faults.{body_fault, chain_fault, directory_cursor, entry_fault, entry_next, first_fault, header_fault, item_fault, method_fault, name_fault, namespace_fault}
 use Rattle.typelib_faults.specs.Laws.{IsFine}
-use Rattle.typelib_faults.specs.Places.{body_at, count_of, directory_of, entries_of, entry_at, entry_end, library_of, name_at}
-use Rattle.descriptor_reader.specs.Views.{descends_from, entry_after, first_number, has_iid, is_named, nth_iface, numbered}
+use Rattle.typelib_faults.specs.Places.{body_at, count_of, directory_of, entries_of, entry_at, entry_end, library_of, method_at, method_end, name_at}
+use Rattle.descriptor_reader.specs.Views.{descends_from, entry_after, first_number, has_iid, in_slots, is_named, nth_iface, numbered}
 use Rattle.typelib_faults.specs.Walk.{reach, values}
-use Rattle.typelib_faults.proofs.ChainLaws.{known_body, long_chain, short_chain, slots_end}
+use Rattle.typelib_faults.proofs.ChainLaws.{known_body, long_chain, short_chain, slots_end, slots_on}
 use Rattle.typelib_faults.proofs.EntryLaws.{directory_fault, reach_entry}
-use Rattle.typelib_faults.proofs.TypelibLaws.{chain_sound, chains_fault}
+use Rattle.typelib_faults.proofs.MemberLaws.{method_sound}
+use Rattle.typelib_faults.proofs.TypelibLaws.{chain_sound, chains_fault, fine_denotes}
 use Rattle.typelib_faults.proofs.WalkFacts.{length_values, numbers_none, parts3, parts4, reach_place, values_get, walk_at}
 
 pub directory_known : (x : List ℕ) → IsFine x → directory_fault x ≡ None
@@ -38,6 +41,14 @@ library_entries x = refl
 pub library_long : (x : List ℕ) → length (library_of x).ifaces ≡ count_of x
 unfolding library_of
 library_long x = length_values (entry_at x) entry_end (directory_of x) (count_of x)
+
+-- the library, its methods and its constants are valid
+pub library_valid : (x : List ℕ) → AreBytes x → IsFine x → IsValid (library_of x)
+library_valid x bytes fine = (fine_denotes x bytes fine).valid
+
+pub method_valid : (x : List ℕ) (c : Cursor) → AreBytes x → method_fault x c ≡ None → IsMethod (length (library_of x).ifaces) (method_at x c.place)
+method_valid x c bytes e =
+    subst (λ (n : ℕ). IsMethod n (method_at x c.place)) (sym (library_long x)) (method_sound x c bytes e).1
 
 entry_names : (x : List ℕ) (c : Cursor) → entry_fault x c ≡ None → name_fault x (c.place + 16) ≡ None
 unfolding entry_fault
@@ -218,3 +229,12 @@ member_is x kind name k = refl
 pub methods_of_library : (x : List ℕ) (k : ℕ) → methods_within (entries_of x) 250 k ≡ methods_of (library_of x) k
 unfolding library_of
 methods_of_library x k = refl
+
+-- an interface has at most as many own methods as its chain of parents may have
+pub own_few : (x : List ℕ) (number : ℕ) → IsFine x → 0 < number → number ≤ count_of x → own_slots (entries_of x) number ≤ 250
+own_few x number fine above below =
+    omega (arith, slots_on (entries_of x) 250 0 number (omega arith) (omega (arith, above)), (slots_known x number fine above below).1)
+
+pub in_slots_length : (lib : Library) (slot : ℕ) (methods : List Method) → length (in_slots lib slot methods) ≡ length methods
+in_slots_length lib slot [] = refl
+in_slots_length lib slot (m ∷ ms) = omega (arith, in_slots_length lib (slot + 1) ms)

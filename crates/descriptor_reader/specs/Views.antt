@@ -1,15 +1,17 @@
 -- What the views of a library stand for, and what they are asked.
-use Rattle.std.specs.Prelude.{ℕ, zero, suc, ◌+◌, ◌==◌, ◌*◌, Bool, ◌&&◌, is_some, option_map, List, length, slice_get, Option, Some, None, sum_by, if◌then◌else◌, nat_lt}
+use Rattle.std.specs.Prelude.{ℕ, zero, suc, ◌+◌, ◌==◌, ◌*◌, Bool, ◌&&◌, is_some, option_map, List, [], ◌∷◌, length, slice_get, Option, Some, None, sum_by, if◌then◌else◌, nat_lt}
 use Rattle.std.specs.List.{list_any, position}
 use Rattle.std.specs.Str.{bytes_eq}
 use Rattle.lib_model.specs.declared.contents.Library.{Library}
 use Rattle.lib_model.specs.declared.contents.Body.{Body}
 use Rattle.lib_model.specs.declared.contents.Iface.{Iface}
+use Rattle.lib_model.specs.declared.contents.Constant.{Constant}
 use Rattle.lib_model.specs.declared.flags.IfaceFlags.{IfaceFlags}
 use Rattle.lib_model.specs.declared.contents.Method.{Method}
 use Rattle.typelib_faults.specs.declared.cursor.Cursor.{Cursor}
 use Rattle.typelib_faults.specs.Places.{directory_of, entry_at}
-use Rattle.lib_model.specs.Valid.{chain_of, own_slots, parent_of}
+use Rattle.lib_model.specs.Table.{methods_in}
+use Rattle.lib_model.specs.Valid.{body_of, chain_of, own_slots, parent_of}
 
 -- the cursor at a place, with no items before it
 abbrev pub first_at : ℕ → Cursor
@@ -20,8 +22,9 @@ pub record IfaceOf : Type 0 where
   pub library : Library
   pub number : ℕ
 
--- a method, and its slot in its interface
+-- a method of a library, and its slot in its interface
 pub record MethodOf : Type 0 where
+  pub library : Library
   pub method : Method
   pub slot : ℕ
 
@@ -69,3 +72,23 @@ descends_from lib k from = list_any (λ n. n == from) (chain_of lib.ifaces k)
 abbrev pub flags_in : Option Body → IfaceFlags
 flags_in None = record { bits = 0 }
 flags_in (Some b) = b.flags
+
+-- the own constants of an interface that has this body; none without one
+abbrev pub constants_in : Option Body → List Constant
+constants_in None = []
+constants_in (Some b) = b.constants
+
+-- methods of a library that stand in the slots from one on
+abbrev pub in_slots : Library → ℕ → List Method → List MethodOf
+in_slots lib slot [] = []
+in_slots lib slot (m ∷ ms) =
+    record { library = lib; method = m; slot = slot } ∷ in_slots lib (slot + 1) ms
+
+-- the own methods of an interface, with their slots
+abbrev pub own_methods_of : IfaceOf → List MethodOf
+own_methods_of v =
+    in_slots v.library (first_slot_of v) (methods_in (body_of v.library.ifaces v.number))
+
+-- its own constants
+abbrev pub own_constants_of : IfaceOf → List Constant
+own_constants_of v = constants_in (body_of v.library.ifaces v.number)

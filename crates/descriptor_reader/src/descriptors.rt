@@ -2,49 +2,31 @@ ghost use Rattle.std.specs.Prelude.{◌≡◌, ◌+◌, ◌<◌, ◌≤◌, IfSo
 ghost use Rattle.lib_model.specs.Denotes.{half_at};
 ghost use Rattle.lib_model.specs.Table.{methods_in};
 ghost use Rattle.lib_model.specs.Valid.{body_of};
-ghost use Rattle.typelib_faults.specs.Bytes.{AreBytes};
-ghost use Rattle.typelib_faults.specs.Faults.{constant_fault, constant_next, descriptor_fault, method_fault, method_next};
-ghost use Rattle.typelib_faults.specs.Laws.{IsFine};
-ghost use Rattle.typelib_faults.specs.Places.{descriptor_at, entries_of, method_at, method_end};
-ghost use Rattle.typelib_faults.specs.Walk.{reach, values, walk};
-ghost use Rattle.descriptor_reader.specs.Views.{first_at};
+ghost use Rattle.typelib_faults.specs.Faults.{constants_cursor, descriptor_fault, methods_reach};
+ghost use Rattle.typelib_faults.specs.Places.{descriptor_at, entries_of};
+ghost use Rattle.typelib_check.specs.Parts.{AreFineConstants, AreFineMethods, constants_of, methods_of};
+ghost use Rattle.descriptor_reader.specs.Views.{constants_in, first_at};
 
-use descriptor_check::File;
-use descriptor_check::chains::place_of_entry;
-use descriptor_check::constants::constants;
-use descriptor_check::interfaces::DESCRIPTOR_OFFSET;
-use descriptor_check::methods::{method, methods};
-use descriptor_check::names::place_of_offset;
-use descriptor_check::numbers::{half, word};
 use lib_model::IfaceFlags;
+use typelib_check::chains::place_of_entry;
+use typelib_check::interfaces::DESCRIPTOR_OFFSET;
+use typelib_check::lengths::{constants_behind, methods_behind};
+use typelib_check::names::place_of_offset;
+use typelib_check::numbers::{half, word};
+use typelib_check::{CheckedFile, Constants, File, Methods};
 use typelib_faults::Cursor;
 
 /// The bits of an interface's flags that are known.
 const KNOWN: u8 = 0x80 | 0x40 | 0x20;
 
-/// The own methods of an interface: where the first is, and how many there are.
-#[derive(Clone, Copy)]
-pub(crate) struct Methods {
-    pub(crate) from: Cursor,
-    pub(crate) count: u16,
-}
-
-/// What a descriptor says behind its methods.
-#[derive(Clone, Copy)]
-pub(crate) struct Rest {
-    pub(crate) constant_count: u16,
-    pub(crate) flags: IfaceFlags,
-}
-
 /// The place of the descriptor of the interface of this number; None where it is not resolved.
-pub(crate) fn descriptor_place(file: &File<'_>, number: u16) -> Option<usize>
-    requires fine { IsFine file.now.bytes.now }
-    requires bytes { AreBytes file.now.bytes.now }
+pub(crate) fn descriptor_place(checked: &CheckedFile<'_>, number: u16) -> Option<usize>
     requires above { 0 < number }
-    requires below { number ≤ file.now.count }
-    ensures fine { IfSome result (λ place. descriptor_fault file.now.bytes.now (first_at place) ≡ None) }
-    ensures body { option_map (descriptor_at file.now.bytes.now) result ≡ body_of (entries_of file.now.bytes.now) number }
+    requires below { number ≤ checked.now.file.count }
+    ensures fine { IfSome result (λ place. descriptor_fault checked.now.file.bytes.now (first_at place) ≡ None) }
+    ensures body { option_map (descriptor_at checked.now.file.bytes.now) result ≡ body_of (entries_of checked.now.file.bytes.now) number }
 {
+    let file = &checked.file;
     let offset = word(file.bytes, place_of_entry(file, number) + DESCRIPTOR_OFFSET);
     if offset == 0 {
         return None;
@@ -57,8 +39,8 @@ pub(crate) fn methods_of_descriptor(file: &File<'_>, place: usize) -> Methods
     requires { descriptor_fault file.now.bytes.now (first_at place) ≡ None }
     ensures from { result.from ≡ first_at (place + 4) }
     ensures count { result.count ≡ half_at file.now.bytes.now (place + 2) }
-    ensures fine { walk (method_fault file.now.bytes.now) (method_next file.now.bytes.now) result.from result.count ≡ None }
-    ensures are { values (method_at file.now.bytes.now) (method_end file.now.bytes.now) result.from.place result.count ≡ (descriptor_at file.now.bytes.now place).methods }
+    ensures fine { AreFineMethods file.now.bytes.now result }
+    ensures are { methods_of file.now.bytes.now result ≡ (descriptor_at file.now.bytes.now place).methods }
 {
     let count = half(file.bytes, place + 2);
     let from = Cursor {
@@ -69,16 +51,14 @@ pub(crate) fn methods_of_descriptor(file: &File<'_>, place: usize) -> Methods
 }
 
 /// The own methods of the interface of this number, none where it is not resolved.
-pub(crate) fn own_methods(file: &File<'_>, number: u16) -> Methods
-    requires fine { IsFine file.now.bytes.now }
-    requires bytes { AreBytes file.now.bytes.now }
+pub(crate) fn own_methods(checked: &CheckedFile<'_>, number: u16) -> Methods
     requires above { 0 < number }
-    requires below { number ≤ file.now.count }
-    ensures fine { walk (method_fault file.now.bytes.now) (method_next file.now.bytes.now) result.from result.count ≡ None }
-    ensures are { values (method_at file.now.bytes.now) (method_end file.now.bytes.now) result.from.place result.count ≡ methods_in (body_of (entries_of file.now.bytes.now) number) }
+    requires below { number ≤ checked.now.file.count }
+    ensures fine { AreFineMethods checked.now.file.bytes.now result }
+    ensures are { methods_of checked.now.file.bytes.now result ≡ methods_in (body_of (entries_of checked.now.file.bytes.now) number) }
 {
-    match descriptor_place(file, number) {
-        Some(place) => methods_of_descriptor(file, place),
+    match descriptor_place(checked, number) {
+        Some(place) => methods_of_descriptor(&checked.file, place),
         None => Methods {
             from: Cursor { place: 0, items: 0 },
             count: 0,
@@ -86,37 +66,44 @@ pub(crate) fn own_methods(file: &File<'_>, number: u16) -> Methods
     }
 }
 
-/// The cursor behind the method at a cursor, which has no fault.
-pub(crate) fn behind_method(file: &File<'_>, at: Cursor) -> Cursor
-    requires { method_fault file.now.bytes.now at ≡ None }
-    ensures { result ≡ method_next file.now.bytes.now at }
+/// The constants of the descriptor at `place`, which has no fault. They stand behind its methods.
+pub(crate) fn constants_of_descriptor(file: &File<'_>, place: usize) -> Constants
+    requires { descriptor_fault file.now.bytes.now (first_at place) ≡ None }
+    ensures from { result.from ≡ constants_cursor (methods_reach file.now.bytes.now (first_at place)) }
+    ensures count { result.count ≡ half_at file.now.bytes.now (methods_reach file.now.bytes.now (first_at place)).place }
+    ensures fine { AreFineConstants file.now.bytes.now result }
+    ensures are { constants_of file.now.bytes.now result ≡ (descriptor_at file.now.bytes.now place).constants }
 {
-    match method(file, at) {
-        Ok(next) => next,
-        Err(_) => unreachable!(),
+    let end = methods_behind(file, methods_of_descriptor(file, place));
+    let count = half(file.bytes, end.place);
+    let from = Cursor {
+        place: end.place + 2,
+        items: end.items,
+    };
+    Constants { from, count }
+}
+
+/// The own constants of the interface of this number, none where it is not resolved.
+pub(crate) fn own_constants(checked: &CheckedFile<'_>, number: u16) -> Constants
+    requires above { 0 < number }
+    requires below { number ≤ checked.now.file.count }
+    ensures fine { AreFineConstants checked.now.file.bytes.now result }
+    ensures are { constants_of checked.now.file.bytes.now result ≡ constants_in (body_of (entries_of checked.now.file.bytes.now) number) }
+{
+    match descriptor_place(checked, number) {
+        Some(place) => constants_of_descriptor(&checked.file, place),
+        None => Constants {
+            from: Cursor { place: 0, items: 0 },
+            count: 0,
+        },
     }
 }
 
-/// The cursor behind all these methods, which have no fault.
-fn behind_methods(file: &File<'_>, all: Methods) -> Cursor
-    requires { walk (method_fault file.now.bytes.now) (method_next file.now.bytes.now) all.from all.count ≡ None }
-    ensures { result ≡ reach (method_next file.now.bytes.now) all.from all.count }
-{
-    match methods(file, all.from, all.count) {
-        Ok(end) => end,
-        Err(_) => unreachable!(),
-    }
-}
-
-/// The cursor behind so many constants, which begin at a cursor and have no fault.
-fn behind_constants(file: &File<'_>, from: Cursor, count: u16) -> Cursor
-    requires { walk (constant_fault file.now.bytes.now) (constant_next file.now.bytes.now) from count ≡ None }
-    ensures { result ≡ reach (constant_next file.now.bytes.now) from count }
-{
-    match constants(file, from, count) {
-        Ok(end) => end,
-        Err(_) => unreachable!(),
-    }
+/// What a descriptor says behind its methods.
+#[derive(Clone, Copy)]
+pub(crate) struct Rest {
+    pub(crate) constant_count: u16,
+    pub(crate) flags: IfaceFlags,
 }
 
 /// What the descriptor at `place`, which has no fault, says behind its methods.
@@ -125,16 +112,11 @@ pub(crate) fn rest_of_descriptor(file: &File<'_>, place: usize) -> Rest
     ensures constants { result.constant_count ≡ length (descriptor_at file.now.bytes.now place).constants }
     ensures flags { result.flags ≡ (descriptor_at file.now.bytes.now place).flags }
 {
-    let end = behind_methods(file, methods_of_descriptor(file, place));
-    let constant_count = half(file.bytes, end.place);
-    let from = Cursor {
-        place: end.place + 2,
-        items: end.items,
-    };
-    let last = behind_constants(file, from, constant_count);
+    let constants = constants_of_descriptor(file, place);
+    let last = constants_behind(file, constants);
     let bits = file.bytes[last.place] & KNOWN;
     Rest {
-        constant_count,
+        constant_count: constants.count,
         flags: IfaceFlags { bits },
     }
 }

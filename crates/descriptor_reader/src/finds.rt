@@ -1,22 +1,21 @@
 ghost use Rattle.std.specs.Prelude.{◌≡◌, ◌-◌, ◌≤◌, ◌<◌};
-ghost use Rattle.typelib_faults.specs.Laws.{IsFine};
 ghost use Rattle.typelib_faults.specs.Places.{library_of};
 ghost use Rattle.descriptor_reader.specs.Views.{entry_after, first_number, has_iid, is_named};
 
 use crate::iface_views::sixteen;
-use descriptor_check::File;
-use descriptor_check::chains::place_of_entry;
-use descriptor_check::interfaces::{DESCRIPTOR_OFFSET, NAME_OFFSET};
-use descriptor_check::names::known_name;
-use descriptor_check::numbers::word;
+use typelib_check::CheckedFile;
+use typelib_check::chains::place_of_entry;
+use typelib_check::interfaces::{DESCRIPTOR_OFFSET, NAME_OFFSET};
+use typelib_check::names::known_name;
+use typelib_check::numbers::word;
 
 /// Whether the interface of this number is resolved and has this name.
-fn has_name(file: &File<'_>, number: u16, name: &[u8]) -> bool
-    requires fine { IsFine file.now.bytes.now }
+fn has_name(checked: &CheckedFile<'_>, number: u16, name: &[u8]) -> bool
     requires above { 0 < number }
-    requires below { number ≤ file.now.count }
-    ensures { result ≡ is_named name.now (entry_after file.now.bytes.now (number - 1)) }
+    requires below { number ≤ checked.now.file.count }
+    ensures { result ≡ is_named name.now (entry_after checked.now.file.bytes.now (number - 1)) }
 {
+    let file = &checked.file;
     let entry = place_of_entry(file, number);
     let offset = word(file.bytes, entry + DESCRIPTOR_OFFSET);
     if offset == 0 {
@@ -26,12 +25,11 @@ fn has_name(file: &File<'_>, number: u16, name: &[u8]) -> bool
 }
 
 /// The number of the first resolved interface of this name.
-pub(crate) fn find(file: &File<'_>, name: &[u8]) -> Option<u16>
-    requires { IsFine file.now.bytes.now }
-    ensures { result ≡ first_number (is_named name.now) (library_of file.now.bytes.now) }
+pub(crate) fn find(checked: &CheckedFile<'_>, name: &[u8]) -> Option<u16>
+    ensures { result ≡ first_number (is_named name.now) (library_of checked.now.file.bytes.now) }
 {
-    for before in 0..file.count {
-        if has_name(file, before + 1, name) {
+    for before in 0..checked.file.count {
+        if has_name(checked, before + 1, name) {
             return Some(before + 1);
         }
     }
@@ -39,11 +37,12 @@ pub(crate) fn find(file: &File<'_>, name: &[u8]) -> Option<u16>
 }
 
 /// Whether the interface of this number is resolved and has this identifier.
-fn has_iid(file: &File<'_>, number: u16, iid: &[u8; 16]) -> bool
+fn has_iid(checked: &CheckedFile<'_>, number: u16, iid: &[u8; 16]) -> bool
     requires above { 0 < number }
-    requires below { number ≤ file.now.count }
-    ensures { result ≡ has_iid iid.now (entry_after file.now.bytes.now (number - 1)) }
+    requires below { number ≤ checked.now.file.count }
+    ensures { result ≡ has_iid iid.now (entry_after checked.now.file.bytes.now (number - 1)) }
 {
+    let file = &checked.file;
     let entry = place_of_entry(file, number);
     let offset = word(file.bytes, entry + DESCRIPTOR_OFFSET);
     if offset == 0 {
@@ -53,11 +52,11 @@ fn has_iid(file: &File<'_>, number: u16, iid: &[u8; 16]) -> bool
 }
 
 /// The number of the first resolved interface of this identifier.
-pub(crate) fn find_iid(file: &File<'_>, iid: &[u8; 16]) -> Option<u16>
-    ensures { result ≡ first_number (has_iid iid.now) (library_of file.now.bytes.now) }
+pub(crate) fn find_iid(checked: &CheckedFile<'_>, iid: &[u8; 16]) -> Option<u16>
+    ensures { result ≡ first_number (has_iid iid.now) (library_of checked.now.file.bytes.now) }
 {
-    for before in 0..file.count {
-        if has_iid(file, before + 1, iid) {
+    for before in 0..checked.file.count {
+        if has_iid(checked, before + 1, iid) {
             return Some(before + 1);
         }
     }

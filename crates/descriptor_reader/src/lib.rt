@@ -1,11 +1,15 @@
 //! A typelib, checked, and what it says, handed out where it stands. Nothing here takes memory.
 #![tactic(auto)]
 
+mod const_iter;
+mod const_views;
+mod constants;
 mod descriptors;
 mod finds;
 mod iface_views;
 mod members;
 mod method_fields;
+mod method_iter;
 mod method_views;
 mod param_iter;
 mod slots;
@@ -13,7 +17,10 @@ mod statuses;
 mod thin;
 mod typelib;
 
+pub use const_iter::ConstIter;
+pub use const_views::ConstView;
 pub use iface_views::IfaceView;
+pub use method_iter::MethodIter;
 pub use method_views::MethodView;
 pub use param_iter::ParamIter;
 pub use typelib::Typelib;

@@ -1,13 +1,12 @@
 ghost use Rattle.std.specs.Prelude.{◌≡◌, None};
 ghost use Rattle.lib_model.specs.Table.{kind_of};
-ghost use Rattle.typelib_faults.specs.Faults.{method_fault, param_fault, param_next};
-ghost use Rattle.typelib_faults.specs.Places.{method_at, param_at, param_end};
-ghost use Rattle.typelib_faults.specs.Walk.{values, walk};
+ghost use Rattle.typelib_faults.specs.Faults.{method_fault};
+ghost use Rattle.typelib_faults.specs.Places.{method_at};
+ghost use Rattle.typelib_check.specs.Parts.{AreFineParams, params_of};
 
 use call_model::MemberKind;
-use descriptor_check::File;
-use descriptor_check::arguments::Params;
-use descriptor_check::names::known_name;
+use typelib_check::names::known_name;
+use typelib_check::{File, Params};
 use lib_model::MethodFlags;
 use typelib_faults::Cursor;
 
@@ -15,6 +14,7 @@ use typelib_faults::Cursor;
 const KNOWN: u8 = 0x80 | 0x40 | 0x20 | 0x10 | 0x08 | 0x04 | 0x02;
 
 /// The flags of the method at a cursor, which has no fault.
+#[tactic(auto, using(typelib_check::proofs::PartLaws::method_inside), unfolding(typelib_faults::specs::Places::method_at))]
 pub(crate) fn flags_of_method(file: &File<'_>, at: Cursor) -> MethodFlags
     requires { method_fault file.now.bytes.now at ≡ None }
     ensures { result ≡ (method_at file.now.bytes.now at.place).flags }
@@ -24,6 +24,7 @@ pub(crate) fn flags_of_method(file: &File<'_>, at: Cursor) -> MethodFlags
 }
 
 /// The name of the method at a cursor, which has no fault.
+#[tactic(auto, using(typelib_check::proofs::PartLaws::method_inside, typelib_check::proofs::PartLaws::method_name), unfolding(typelib_faults::specs::Places::method_at))]
 pub(crate) fn name_of_method<'a>(file: &File<'a>, at: Cursor) -> &'a [u8]
     requires { method_fault file.now.bytes.now at ≡ None }
     ensures { result.now ≡ (method_at file.now.bytes.now at.place).name }
@@ -47,10 +48,11 @@ pub(crate) fn kind_of_method(file: &File<'_>, at: Cursor) -> MemberKind
 }
 
 /// The parameters of the method at a cursor, which has no fault.
+#[tactic(auto, using(typelib_check::proofs::PartLaws::method_room, typelib_check::proofs::PartLaws::method_inside, typelib_check::proofs::PartLaws::method_params), unfolding(typelib_faults::specs::Places::method_at))]
 pub(crate) fn params_of_method(file: &File<'_>, at: Cursor) -> Params
     requires { method_fault file.now.bytes.now at ≡ None }
-    ensures fine { walk (param_fault file.now.bytes.now) (param_next file.now.bytes.now) result.from result.count ≡ None }
-    ensures are { values (param_at file.now.bytes.now) (param_end file.now.bytes.now) result.from.place result.count ≡ (method_at file.now.bytes.now at.place).params }
+    ensures fine { AreFineParams file.now.bytes.now result }
+    ensures are { params_of file.now.bytes.now result ≡ (method_at file.now.bytes.now at.place).params }
 {
     Params {
         from: Cursor {

@@ -1,11 +1,12 @@
 ghost use Rattle.std.specs.Prelude.{◌≡◌, ◌≤◌, length};
 ghost use Rattle.lib_model.specs.Table.{kind_of, slot_of, status_of};
+ghost use Rattle.lib_model.specs.Valid.{IsMethod};
 
 use crate::method_fields::{flags_of_method, kind_of_method, name_of_method, params_of_method};
 use crate::param_iter::ParamIter;
 use crate::statuses::{added_arguments, status_of_method};
 use call_model::{MemberKind, Status};
-use descriptor_check::File;
+use typelib_check::CheckedFile;
 use lib_model::MethodFlags;
 use std::marker::Model;
 use typelib_faults::Cursor;
@@ -13,7 +14,7 @@ use typelib_faults::Cursor;
 /// A method of a typelib that has been checked, with its slot.
 #[derive(Drop)]
 pub struct MethodView<'a> {
-    pub(crate) file: File<'a>,
+    pub(crate) checked: CheckedFile<'a>,
     pub(crate) at: Cursor,
     pub(crate) slot: u16,
 }
@@ -21,14 +22,18 @@ pub struct MethodView<'a> {
 impl<'a> Model for MethodView<'a> {
     ghost use Rattle.std.specs.Prelude.{◌≡◌, None};
     ghost use Rattle.typelib_faults.specs.Faults.{method_fault};
-    ghost use Rattle.typelib_faults.specs.Places.{method_at};
+    ghost use Rattle.typelib_faults.specs.Places.{library_of, method_at};
     ghost use Rattle.descriptor_reader.specs.Views.{MethodOf};
 
     ghost Value = { MethodOf };
 
-    ghost view = { λ v. record { method = method_at v.file.bytes.now v.at.place; slot = v.slot } };
+    ghost view = { λ v. record {
+        library = library_of v.checked.file.bytes.now;
+        method = method_at v.checked.file.bytes.now v.at.place;
+        slot = v.slot;
+    } };
 
-    ghost invariant = { λ v. method_fault v.file.bytes.now v.at ≡ None };
+    ghost invariant = { λ v. method_fault v.checked.file.bytes.now v.at ≡ None };
 }
 
 impl<'a> MethodView<'a> {
@@ -43,36 +48,37 @@ impl<'a> MethodView<'a> {
     pub fn name(&self) -> &'a [u8]
         ensures { result.now ≡ self.now.method.name }
     {
-        name_of_method(&self.file, self.at)
+        name_of_method(&self.checked.file, self.at)
     }
 
     /// What it is: a method, or the reading or the writing half of an attribute.
     pub fn kind(&self) -> MemberKind
         ensures { result ≡ kind_of self.now.method }
     {
-        kind_of_method(&self.file, self.at)
+        kind_of_method(&self.checked.file, self.at)
     }
 
     /// What else the typelib says of it.
     pub fn flags(&self) -> MethodFlags
         ensures { result ≡ self.now.method.flags }
     {
-        flags_of_method(&self.file, self.at)
+        flags_of_method(&self.checked.file, self.at)
     }
 
     /// Whether it may be called, and if not, why.
     pub fn status(&self) -> Status
         ensures { result ≡ status_of self.now.method }
     {
-        status_of_method(&self.file, self.at)
+        status_of_method(&self.checked.file, self.at)
     }
 
-    /// The number of its parameters, a return value among them.
+    /// The number of its parameters, a return value among them. It is a method of a valid library.
     pub fn param_count(&self) -> u32
         ensures count { result ≡ length self.now.method.params }
+        ensures valid { IsMethod (length self.now.library.ifaces) self.now.method }
         ensures few { result ≤ 255 }
     {
-        u32::from(params_of_method(&self.file, self.at).count)
+        u32::from(params_of_method(&self.checked.file, self.at).count)
     }
 
     /// How many arguments its prototype has, without the object's address: one for each parameter, and those that are
@@ -92,9 +98,9 @@ impl<'a> MethodView<'a> {
         ensures items { result ≡ self.now.method.params }
         ensures few { length result ≤ 255 }
     {
-        let params = params_of_method(&self.file, self.at);
+        let params = params_of_method(&self.checked.file, self.at);
         ParamIter {
-            file: self.file,
+            file: self.checked.file,
             at: params.from,
             left: params.count,
         }

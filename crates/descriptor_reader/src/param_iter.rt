@@ -2,8 +2,8 @@ ghost use Rattle.std.specs.Prelude.{List};
 ghost use Rattle.std.specs.Iterator.{YieldsFirst, item_count};
 ghost use Rattle.lib_model.specs.declared.param_types.Param.{Param};
 
-use descriptor_check::File;
-use descriptor_check::arguments::known_param;
+use typelib_check::File;
+use typelib_check::arguments::known_param;
 use lib_model::Param;
 use std::marker::Model;
 use typelib_faults::Cursor;

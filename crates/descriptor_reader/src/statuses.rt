@@ -2,14 +2,14 @@ ghost use Rattle.std.specs.Prelude.{◌≡◌, ◌+◌, ◌≤◌, None, if◌th
 ghost use Rattle.std.specs.List.{list_any};
 ghost use Rattle.lib_model.specs.declared.param_types.Param.{Param};
 ghost use Rattle.lib_model.specs.Table.{has, is_opaque, is_opaque_tag, is_string_class, status_of};
-ghost use Rattle.typelib_faults.specs.Faults.{method_fault, param_fault, param_next};
-ghost use Rattle.typelib_faults.specs.Places.{method_at, param_at, param_end};
-ghost use Rattle.typelib_faults.specs.Walk.{values, walk};
+ghost use Rattle.typelib_faults.specs.Faults.{method_fault};
+ghost use Rattle.typelib_faults.specs.Places.{method_at};
+ghost use Rattle.typelib_check.specs.Parts.{AreFineParams, params_of};
 
 use crate::method_fields::{flags_of_method, params_of_method};
 use call_model::Status;
-use descriptor_check::File;
-use descriptor_check::arguments::{Params, known_param};
+use typelib_check::arguments::known_param;
+use typelib_check::{File, Params};
 use lib_model::{Elem, MethodFlags, XType};
 use typelib_faults::Cursor;
 
@@ -43,8 +43,8 @@ fn is_opaque(ty: XType) -> bool
 
 /// Whether one of these parameters, which have no fault, has a type that no call can pass.
 fn any_opaque(file: &File<'_>, params: Params) -> bool
-    requires { walk (param_fault file.now.bytes.now) (param_next file.now.bytes.now) params.from params.count ≡ None }
-    ensures { result ≡ list_any (λ (p : Param). is_opaque p.ty) (values (param_at file.now.bytes.now) (param_end file.now.bytes.now) params.from.place params.count) }
+    requires { AreFineParams file.now.bytes.now params }
+    ensures { result ≡ list_any (λ (p : Param). is_opaque p.ty) (params_of file.now.bytes.now params) }
 {
     let mut at = params.from;
     for _ in 0..params.count {

@@ -1,20 +1,19 @@
 ghost use Rattle.std.specs.Prelude.{◌≡◌, ◌<◌, ◌↔◌, All, IsTrue, None};
 ghost use Rattle.lib_model.specs.Thin.{IsThin, IsThinBody, IsThinIface, IsThinMethod, IsThinParam};
-ghost use Rattle.typelib_faults.specs.Bytes.{AreBytes};
-ghost use Rattle.typelib_faults.specs.Faults.{descriptor_fault, method_fault, method_next, param_fault, param_next};
-ghost use Rattle.typelib_faults.specs.Laws.{IsFine};
-ghost use Rattle.typelib_faults.specs.Places.{descriptor_at, directory_of, entry_at, library_of, method_at, method_end, param_at, param_end};
-ghost use Rattle.typelib_faults.specs.Walk.{values, walk};
+ghost use Rattle.typelib_faults.specs.Faults.{descriptor_fault, method_fault};
+ghost use Rattle.typelib_faults.specs.Places.{descriptor_at, directory_of, entry_at, library_of, method_at};
+ghost use Rattle.typelib_check.specs.Parts.{AreFineMethods, AreFineParams, methods_of, params_of};
 ghost use Rattle.descriptor_reader.specs.Views.{first_at};
 
 use crate::descriptors::{
-    Methods, Rest, behind_method, descriptor_place, methods_of_descriptor, rest_of_descriptor,
+    Rest, descriptor_place, methods_of_descriptor, rest_of_descriptor,
 };
 use crate::method_fields::{flags_of_method, params_of_method};
-use descriptor_check::File;
-use descriptor_check::arguments::{Params, known_param};
-use descriptor_check::interfaces::NAMESPACE_OFFSET;
-use descriptor_check::numbers::{half, word};
+use typelib_check::arguments::known_param;
+use typelib_check::interfaces::NAMESPACE_OFFSET;
+use typelib_check::lengths::method_behind;
+use typelib_check::numbers::{half, word};
+use typelib_check::{CheckedFile, File, Methods, Params};
 use lib_model::{Param, ParamFlags, XType};
 use typelib_faults::Cursor;
 
@@ -30,8 +29,8 @@ fn thin_param(param: Param) -> bool
 
 /// Whether all these parameters, which have no fault, carry a number of 32 bits into the call.
 fn thin_params(file: &File<'_>, params: Params) -> bool
-    requires { walk (param_fault file.now.bytes.now) (param_next file.now.bytes.now) params.from params.count ≡ None }
-    ensures { IsTrue result ↔ All IsThinParam (values (param_at file.now.bytes.now) (param_end file.now.bytes.now) params.from.place params.count) }
+    requires { AreFineParams file.now.bytes.now params }
+    ensures { IsTrue result ↔ All IsThinParam (params_of file.now.bytes.now params) }
 {
     let mut at = params.from;
     for _ in 0..params.count {
@@ -54,15 +53,15 @@ fn thin_method(file: &File<'_>, at: Cursor) -> bool
 
 /// Whether all these methods, which have no fault, are thin.
 fn thin_methods(file: &File<'_>, methods: Methods) -> bool
-    requires { walk (method_fault file.now.bytes.now) (method_next file.now.bytes.now) methods.from methods.count ≡ None }
-    ensures { IsTrue result ↔ All IsThinMethod (values (method_at file.now.bytes.now) (method_end file.now.bytes.now) methods.from.place methods.count) }
+    requires { AreFineMethods file.now.bytes.now methods }
+    ensures { IsTrue result ↔ All IsThinMethod (methods_of file.now.bytes.now methods) }
 {
     let mut at = methods.from;
     for _ in 0..methods.count {
         if !thin_method(file, at) {
             return false;
         }
-        at = behind_method(file, at);
+        at = method_behind(file, at);
     }
     true
 }
@@ -86,29 +85,26 @@ fn thin_descriptor(file: &File<'_>, place: usize) -> bool
 }
 
 /// Whether the only interface is thin.
-fn thin_entry(file: &File<'_>) -> bool
-    requires fine { IsFine file.now.bytes.now }
-    requires bytes { AreBytes file.now.bytes.now }
-    requires one { file.now.count ≡ 1 }
-    ensures { IsTrue result ↔ IsThinIface (entry_at file.now.bytes.now (directory_of file.now.bytes.now)) }
+fn thin_entry(checked: &CheckedFile<'_>) -> bool
+    requires { checked.now.file.count ≡ 1 }
+    ensures { IsTrue result ↔ IsThinIface (entry_at checked.now.file.bytes.now (directory_of checked.now.file.bytes.now)) }
 {
+    let file = &checked.file;
     if word(file.bytes, file.directory + NAMESPACE_OFFSET) != 0 {
         return false;
     }
-    match descriptor_place(file, 1) {
+    match descriptor_place(checked, 1) {
         Some(place) => thin_descriptor(file, place),
         None => false,
     }
 }
 
 /// Whether the library is thin.
-pub(crate) fn thin_library(file: &File<'_>) -> bool
-    requires fine { IsFine file.now.bytes.now }
-    requires bytes { AreBytes file.now.bytes.now }
-    ensures { IsTrue result ↔ IsThin (library_of file.now.bytes.now) }
+pub(crate) fn thin_library(checked: &CheckedFile<'_>) -> bool
+    ensures { IsTrue result ↔ IsThin (library_of checked.now.file.bytes.now) }
 {
-    if file.count != 1 {
+    if checked.file.count != 1 {
         return false;
     }
-    thin_entry(file)
+    thin_entry(checked)
 }

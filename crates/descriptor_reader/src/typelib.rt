@@ -4,6 +4,7 @@ ghost use Rattle.lib_model.specs.declared.contents.Library.{Library};
 ghost use Rattle.lib_model.specs.Denotes.{Denotes};
 ghost use Rattle.lib_model.specs.Table.{methods_of, table_of};
 ghost use Rattle.lib_model.specs.Thin.{IsThin};
+ghost use Rattle.lib_model.specs.Valid.{IsValid};
 ghost use Rattle.typelib_faults.specs.Laws.{FirstFault};
 ghost use Rattle.descriptor_reader.specs.Views.{MethodOf, descends_from, first_number, has_iid, numbered};
 
@@ -13,8 +14,8 @@ use crate::members::{member, method_in_slot};
 use crate::method_views::MethodView;
 use crate::thin::thin_library;
 use call_model::MemberKind;
-use descriptor_check::chains::reaches;
-use descriptor_check::{File, checked};
+use typelib_check::chains::reaches;
+use typelib_check::{CheckedFile, checked};
 use lib_model::LONGEST_TYPELIB;
 use std::marker::Model;
 use typelib_faults::BadTypelib;
@@ -23,20 +24,16 @@ use typelib_faults::BadTypelib;
 /// that the bytes denote.
 #[derive(Drop)]
 pub struct Typelib<'a> {
-    file: File<'a>,
+    checked: CheckedFile<'a>,
 }
 
 impl<'a> Model for Typelib<'a> {
     ghost use Rattle.lib_model.specs.declared.contents.Library.{Library};
-    ghost use Rattle.typelib_faults.specs.Bytes.{AreBytes};
-    ghost use Rattle.typelib_faults.specs.Laws.{IsFine};
     ghost use Rattle.typelib_faults.specs.Places.{library_of};
 
     ghost Value = { Library };
 
-    ghost view = { λ t. library_of t.file.bytes.now };
-
-    ghost invariant = { λ t. IsFine t.file.bytes.now × AreBytes t.file.bytes.now };
+    ghost view = { λ t. library_of t.checked.file.bytes.now };
 }
 
 impl<'a> Typelib<'a> {
@@ -50,17 +47,18 @@ impl<'a> Typelib<'a> {
         ensures err { IfErr result (λ fault. FirstFault bytes.now fault) }
     {
         match checked(bytes) {
-            Ok(file) => Ok(Typelib { file }),
+            Ok(checked) => Ok(Typelib { checked }),
             Err(fault) => Err(fault),
         }
     }
 
-    /// The number of interfaces.
+    /// The number of interfaces. The library is valid.
     #[tactic(auto, using(crate::proofs::ViewLaws::library_long))]
     pub fn iface_count(&self) -> u16
-        ensures { result ≡ length self.now.ifaces }
+        ensures count { result ≡ length self.now.ifaces }
+        ensures valid { IsValid self.now }
     {
-        self.file.count
+        self.checked.file.count
     }
 
     /// The interface of this number, counted from 1; None where there is none.
@@ -68,11 +66,11 @@ impl<'a> Typelib<'a> {
     pub fn iface(&self, k: u16) -> Option<IfaceView<'a>>
         ensures { result ≡ numbered self.now k }
     {
-        if k == 0 || k > self.file.count {
+        if k == 0 || k > self.checked.file.count {
             return None;
         }
         Some(IfaceView {
-            file: self.file,
+            checked: self.checked,
             number: k,
         })
     }
@@ -81,14 +79,14 @@ impl<'a> Typelib<'a> {
     pub fn find(&self, name: &[u8]) -> Option<u16>
         ensures { result ≡ iface_named (table_of self.now) name.now }
     {
-        find(&self.file, name)
+        find(&self.checked, name)
     }
 
     /// The number, counted from 1, of the first resolved interface of this identifier; None where there is none.
     pub fn find_iid(&self, iid: &[u8; 16]) -> Option<u16>
         ensures { result ≡ first_number (has_iid iid.now) self.now }
     {
-        find_iid(&self.file, iid)
+        find_iid(&self.checked, iid)
     }
 
     /// The member of this kind and name of the interface `k`, counted from 1: its first own one, or else that of its parent, the
@@ -96,13 +94,14 @@ impl<'a> Typelib<'a> {
     pub fn find_method(&self, k: u16, kind: MemberKind, name: &[u8]) -> Option<MethodView<'a>>
         ensures slot { option_map (λ (m : MethodOf). m.slot) result ≡ member_of (table_of self.now) k kind name.now }
         ensures method { IfSome result (λ m. slice_get (methods_of self.now k) m.slot ≡ Some m.method) }
+        ensures library { IfSome result (λ m. m.library ≡ self.now) }
     {
-        if k > self.file.count {
+        if k > self.checked.file.count {
             return None;
         }
-        match member(&self.file, k, kind, name) {
+        match member(&self.checked, k, kind, name) {
             Some(found) => Some(MethodView {
-                file: self.file,
+                checked: self.checked,
                 at: found.at,
                 slot: found.slot,
             }),
@@ -115,13 +114,14 @@ impl<'a> Typelib<'a> {
     pub fn method_at(&self, k: u16, slot: u16) -> Option<MethodView<'a>>
         ensures method { option_map (λ (m : MethodOf). m.method) result ≡ slice_get (methods_of self.now k) slot }
         ensures slot { IfSome result (λ m. m.slot ≡ slot) }
+        ensures library { IfSome result (λ m. m.library ≡ self.now) }
     {
-        if k > self.file.count {
+        if k > self.checked.file.count {
             return None;
         }
-        match method_in_slot(&self.file, k, slot) {
+        match method_in_slot(&self.checked, k, slot) {
             Some(at) => Some(MethodView {
-                file: self.file,
+                checked: self.checked,
                 at,
                 slot,
             }),
@@ -134,7 +134,7 @@ impl<'a> Typelib<'a> {
     pub fn thin(&self) -> bool
         ensures { IsTrue result ↔ IsThin self.now }
     {
-        thin_library(&self.file)
+        thin_library(&self.checked)
     }
 
     /// Whether the interface `k` is `from` or descends from it; both are counted from 1.
@@ -142,9 +142,9 @@ impl<'a> Typelib<'a> {
     pub fn descends(&self, k: u16, from: u16) -> bool
         ensures { result ≡ descends_from self.now k from }
     {
-        if k > self.file.count {
+        if k > self.checked.file.count {
             return k == from;
         }
-        reaches(&self.file, k, from)
+        reaches(&self.checked.file, k, from)
     }
 }

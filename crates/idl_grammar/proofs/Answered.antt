@@ -21,7 +21,7 @@ whole-ok (Err r) a rest e = cc
 some_alike : {A : Type 0} (a b : A) (xs ys : List Lexeme) → ◌≡◌ {A = Outcome A} (Ok (pair a xs)) (Ok (pair b ys)) → pair a xs ≡ pair b ys
 some_alike a b xs ys e = cc
 
-complete-whole : {A : Type 0} (r : Rule A) → is_predictive r ≡ true → (ts : List Lexeme) (a : A) → Reads r ts a → read r ts ≡ Ok (pair a [])
+pub complete-whole : {A : Type 0} (r : Rule A) → is_predictive r ≡ true → (ts : List Lexeme) (a : A) → Reads r ts a → read r ts ≡ Ok (pair a [])
 complete-whole r h ts a reads = subst (λ us. read r us ≡ Ok (pair a [])) (append-nil ts) (complete r h ts a [] reads refl)
 
 only-of : {A : Type 0} (r : Rule A) → is_predictive r ≡ true → (ts : List Lexeme) (a : A) → read r ts ≡ Ok (pair a []) → Sound r ts (read r ts) → IsOnlyTree r ts a

@@ -13,4 +13,12 @@ pub mod Predictive
 pub mod Levels
 pub mod Answered
 pub mod Parsed
-pub mod FewTokens
+pub mod Counts
+pub mod TextLaws
+pub mod Made
+pub mod ExprLaws
+pub mod IidLaws
+pub mod NativeLaws
+pub mod SpelledLaws
+pub mod TreeMade
+pub mod Tables

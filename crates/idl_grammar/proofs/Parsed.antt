@@ -1,16 +1,18 @@
 -- What parse answers.
-use Rattle.std.proofs.Common.{◌≡◌, ◌≢◌, ◌≤◌, ◌-◌, ℕ, suc, List, [], ◌∷◌, length, get_or, Err, refl, sym, ◌∙◌, ap, subst, arith}
+use Rattle.std.proofs.Common.{◌≡◌, ◌≢◌, ◌≤◌, ◌<◌, ◌-◌, ◌^◌, ℕ, suc, List, [], ◌∷◌, length, get_or, Err, refl, sym, ◌∙◌, ap, subst, arith}
 use Rattle.std.proofs.lemmas.List.{length-map}
 use Rattle.idl_lexer.specs.declared.token.Token.{Token}
 use Rattle.idl_grammar.specs.declared.cursor.Stop.{Stop}
 use Rattle.idl_grammar.specs.declared.cursor.Stop.TheVariants as stop
 use Rattle.idl_grammar.specs.declared.syntax_error.SyntaxError.{SyntaxError}
-use Rattle.idl_grammar.specs.declared.syntax_error.SyntaxError.TheVariants as fault
+use Rattle.idl_lexer.specs.Tokens.{AreTokens}
+use Rattle.idl_grammar.specs.declared.tree.IdlFile.{IdlFile}
+use Rattle.idl_grammar.specs.Texts.{IsLawfulFile}
 use Rattle.idl_grammar.specs.Terminals.{Lexeme, lexeme_of, lexemes_of}
 use Rattle.idl_grammar.specs.Grammar.{file}
 use Rattle.idl_grammar.specs.Read.{read}
 use Rattle.idl_grammar.specs.Gives.{whole}
-use Rattle.idl_grammar.specs.Places.{HasNoTree, IfAt, IsReach, last_line, line_at, line_or}
+use Rattle.idl_grammar.specs.Places.{HasNoTree, IfAt, IsReach, IsOnlyTree, fault_before, last_line, line_at}
 use Rattle.idl_grammar.proofs.Answered.{no-tree, reach-of, line-of, left-of}
 use Rattle.idl_grammar.proofs.Predictive.{file-predictive}
 
@@ -34,7 +36,7 @@ pub fault-left : (source : List ℕ) (tokens : List Token) (rest : List Lexeme) 
 fault-left source tokens rest e = let l = left-of file file-predictive (lexemes_of source tokens) rest e in omega (arith, as_many source tokens)
 
 abbrev the_fault : List ℕ → List Token → List Lexeme → SyntaxError
-the_fault source tokens rest = fault.At (length tokens - length rest) (line_or (last_line (lexemes_of source tokens)) rest)
+the_fault source tokens rest = fault_before (length tokens) (last_line (lexemes_of source tokens)) rest
 
 pub fault-none : (source : List ℕ) (tokens : List Token) (rest : List Lexeme) (f : SyntaxError) → f ≡ the_fault source tokens rest → whole (read file (lexemes_of source tokens)) ≡ Err rest
     → IfAt f (λ at line. HasNoTree file (lexemes_of source tokens))
@@ -52,3 +54,8 @@ pub fault-line : (source : List ℕ) (tokens : List Token) (rest : List Lexeme) 
 fault-line source tokens rest f h e =
     subst (λ g. IfAt g (λ at line. line ≡ line_at (lexemes_of source tokens) at)) (sym h)
     (sym (ap (λ n. line_at (lexemes_of source tokens) (n - length rest)) (sym (as_many source tokens)) ∙ line-of file file-predictive (lexemes_of source tokens) rest e))
+
+-- the one tree of tokens that are those of their text
+pub lawful-tree : (source : List ℕ) (tokens : List Token) (tree : IdlFile) → length tokens < 2 ^ 32 → IsOnlyTree file (lexemes_of source tokens) tree → AreTokens source tokens → IsLawfulFile tree
+lawful-tree source tokens tree few only spelled =
+    record { bytes = source; has = record { tokens = tokens; spelled = spelled; read = only.reads }; few = few }

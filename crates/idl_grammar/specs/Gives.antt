@@ -4,7 +4,8 @@ use Rattle.std.specs.Borrow.{Bor}
 use Rattle.idl_grammar.specs.declared.cursor.Stop.{Stop}
 use Rattle.idl_grammar.specs.declared.cursor.Stop.TheVariants as stop
 use Rattle.idl_grammar.specs.Terminals.{Lexeme}
-use Rattle.idl_grammar.specs.Read.{Outcome, pair, and_then}
+use Rattle.idl_grammar.specs.Read.{Outcome, pair, and_then, read}
+use Rattle.idl_grammar.specs.Rule.{Rule}
 
 -- the tree and the tokens behind it, or the tokens that cannot go on, unless memory ran out
 abbrev pub Gives : {A : Type 0} → Outcome A → Result A Stop → List Lexeme → Type 0
@@ -28,9 +29,16 @@ abbrev pub passed : {A : Type 0} → Outcome A → Outcome (Unit {0})
 passed outcome = and_then outcome (λ _ rest. Ok (pair tt rest))
 
 -- The list that grows is what was found at the end, and the tokens behind it are left.
-abbrev pub Adds : {A : Type 0} → Outcome (List A) → Result (Unit {0}) Stop → List A → List Lexeme → Type 0
+abbrev pub Adds : {A : Type 0} → Outcome (List A)
+    → Result (Unit {0}) Stop → List A → List Lexeme → Type 0
 Adds outcome (Ok _) found new = outcome ≡ Ok (pair found new)
 Adds outcome (Err e) found new = e ≢ stop.Memory → outcome ≡ Err new
+
+-- What the rule reads of the tokens is put behind what was found before, and the tokens behind it
+-- are left.
+abbrev pub Collects : {A : Type 0} → Rule (List A) → List A → List Lexeme
+    → Result (Unit {0}) Stop → List A → List Lexeme → Type 0
+Collects rule found tokens result = Adds (more plain found (read rule tokens)) result
 
 -- a reading of all tokens: those that are left cannot go on
 abbrev pub alone : {A : Type 0} → A → List Lexeme → Outcome A

@@ -10,6 +10,7 @@ use Rattle.idl_grammar.specs.declared.terminal.Terminal.TheVariants as terminal
 use Rattle.idl_grammar.specs.declared.level.Level.{Level}
 use Rattle.idl_grammar.specs.declared.level.Level.TheVariants as level
 use Rattle.idl_grammar.specs.declared.tree.IdlFile.{IdlFile}
+use Rattle.idl_grammar.specs.declared.tree.Interface.{Interface}
 use Rattle.idl_grammar.specs.declared.tree.Item.{Item}
 use Rattle.idl_grammar.specs.declared.tree.ItemBody.{ItemBody}
 use Rattle.idl_grammar.specs.declared.tree.ItemBody.TheVariants as item
@@ -49,18 +50,21 @@ long_type one two = key k.Long &> (means (key k.Long) two <|> nothing one)
 
 -- "unsigned" "short" | "unsigned" "long" | "unsigned" "long" "long"
 unfoldable pub unsigned_type : Rule TypeName
-unsigned_type = key k.Unsigned &> (means (key k.Short) type.UShort <|> long_type type.ULong type.ULongLong)
+unsigned_type =
+    key k.Unsigned &> (means (key k.Short) type.UShort <|> long_type type.ULong type.ULongLong)
 
 -- "float" | "double" | "char" | "wchar" | "string" | "wstring"
 unfoldable pub wide_type : Rule TypeName
 wide_type =
-    means (key k.Float) type.Float <|> means (key k.Double) type.Double <|> means (key k.Char) type.Char
-    <|> means (key k.WChar) type.WChar <|> means (key k.String) type.CString <|> means (key k.WString) type.WString
+    means (key k.Float) type.Float <|> means (key k.Double) type.Double
+    <|> means (key k.Char) type.Char <|> means (key k.WChar) type.WChar
+    <|> means (key k.String) type.CString <|> means (key k.WString) type.WString
 
 unfoldable pub type_name : Rule TypeName
 type_name =
-    type.Named <$> word <|> means (key k.Void) type.Void <|> means (key k.Boolean) type.Boolean <|> means (key k.Octet) type.Octet
-    <|> means (key k.Short) type.Short <|> long_type type.Long type.LongLong <|> unsigned_type <|> wide_type
+    type.Named <$> word <|> means (key k.Void) type.Void <|> means (key k.Boolean) type.Boolean
+    <|> means (key k.Octet) type.Octet <|> means (key k.Short) type.Short
+    <|> long_type type.Long type.LongLong <|> unsigned_type <|> wide_type
 
 -- ---- attributes
 
@@ -112,7 +116,8 @@ joined (r ∷ rs) = (r.1 ++ r.0 ∷ []) ++ joined rs
 abbrev pub chain : Rule ExprStep → Rule (List ExprStep) → Rule (List ExprStep)
 chain sign operand = (λ r. r.0 ++ joined r.1) <$> operand & many (sign & operand)
 
--- the chains of each level, over an operand; the operands of a level are the chains of the next tighter one
+-- The chains of each level, over an operand. The operands of a level are the chains of the next
+-- tighter one.
 
 unfoldable pub products : Rule (List ExprStep) → Rule (List ExprStep)
 products operand = chain (operator level.Product) operand
@@ -169,7 +174,8 @@ direction = means (key k.In) Inward <|> means (key k.Out) Outward <|> means (key
 
 unfoldable pub parameter : Rule ParamDecl
 parameter =
-    (λ r. record { attrs = r.0; dir = r.1.0; of = r.1.1.0; name = r.1.1.1 }) <$> any_attributes & (direction & (type_name & word))
+    (λ r. record { attrs = r.0; dir = r.1.0; of = r.1.1.0; name = r.1.1.1 })
+    <$> any_attributes & (direction & (type_name & word))
 
 -- ("," param)*
 abbrev pub more_parameters : Rule (List ParamDecl)
@@ -208,7 +214,8 @@ attribute =
 unfoldable pub method : Rule (List Attr → MemberBody)
 method =
     (λ r attrs. member.Method attrs r.0 r.1.0 r.1.1)
-    <$> type_name & (word & (mark m.LParen &> (parameters <& (mark m.RParen & (any_raises & mark m.Semi)))))
+    <$> type_name
+    & (word & (mark m.LParen &> (parameters <& (mark m.RParen & (any_raises & mark m.Semi)))))
 
 -- attrs? attribute | attrs? method
 unfoldable pub marked_member : Rule MemberBody
@@ -240,10 +247,13 @@ forward = (λ _ name attrs. item.Forward name) <$> mark m.Semi
 unfoldable pub parent : Rule (Option (List ℕ))
 parent = optional (mark m.Colon &> word)
 
+abbrev defined : Interface → ItemBody
+defined i = item.Interface i
+
 -- (":" W)? "{" member* "}" ";"
 unfoldable pub definition : Rule (List ℕ → List Attr → ItemBody)
 definition =
-    (λ r name attrs. item.Interface (record { attrs = attrs; name = name; parent = r.0; members = r.1 }))
+    (λ r name attrs. defined (record { attrs = attrs; name = name; parent = r.0; members = r.1 }))
     <$> parent & (mark m.LBrace &> (members <& (mark m.RBrace & mark m.Semi)))
 
 -- "interface" W ";" | "interface" W (":" W)? "{" member* "}" ";"
@@ -252,7 +262,9 @@ interface = (λ r. r.1 r.0) <$> key k.Interface &> word & (forward <|> definitio
 
 -- Native ";"
 unfoldable pub native : Rule (List Attr → ItemBody)
-native = (λ text attrs. item.Native attrs (native_name text) (native_text text)) <$> token terminal.Native <& mark m.Semi
+native =
+    (λ text attrs. item.Native attrs (native_name text) (native_text text))
+    <$> token terminal.Native <& mark m.Semi
 
 -- attrs? native | attrs? interface
 unfoldable pub marked_item : Rule ItemBody
@@ -264,7 +276,8 @@ typedef = (λ r. item.Typedef r.0 r.1) <$> key k.Typedef &> type_name & (word <&
 
 unfoldable pub item_body : Rule ItemBody
 item_body =
-    (λ text. item.Include (quoted text)) <$> token terminal.Include <|> means (token terminal.Code) item.Code <|> typedef <|> marked_item
+    (λ text. item.Include (quoted text)) <$> token terminal.Include
+    <|> means (token terminal.Code) item.Code <|> typedef <|> marked_item
 
 unfoldable pub one_item : Rule Item
 one_item = (λ r. record { line = r.0; body = r.1 }) <$> lined item_body

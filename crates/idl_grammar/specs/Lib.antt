@@ -5,3 +5,5 @@ pub mod Grammar
 pub mod Read
 pub mod Gives
 pub mod Places
+pub mod Texts
+pub mod Trees

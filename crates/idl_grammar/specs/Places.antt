@@ -1,5 +1,5 @@
 -- The one tree of a list of tokens, and the place of a fault where it has none.
-use Rattle.std.specs.Prelude.{◌≡◌, ◌≤◌, ℕ, List, [], ◌∷◌, length, take, drop}
+use Rattle.std.specs.Prelude.{◌≡◌, ◌≤◌, ◌-◌, ℕ, List, [], ◌∷◌, length, take, drop}
 use Rattle.idl_grammar.specs.declared.syntax_error.SyntaxError.{SyntaxError}
 use Rattle.idl_grammar.specs.declared.syntax_error.SyntaxError.TheVariants as fault
 use Rattle.idl_grammar.specs.Terminals.{Lexeme}
@@ -33,6 +33,10 @@ last_line (_ ∷ t ∷ ts) = last_line (t ∷ ts)
 -- the line of the token at a place, or at the end of the last one
 abbrev pub line_at : List Lexeme → ℕ → ℕ
 line_at ts n = line_or (last_line ts) (drop n ts)
+
+-- the fault at the first of the tokens that are left, of so many; at the end it has the last line
+abbrev pub fault_before : (count last : ℕ) → List Lexeme → SyntaxError
+fault_before count last rest = fault.At (count - length rest) (line_or last rest)
 
 -- P of the place and the line, where the error names them
 abbrev pub IfAt : SyntaxError → (ℕ → ℕ → Type 0) → Type 0

@@ -1,5 +1,6 @@
--- What the parser computes: the reading of a rule with one token of look-ahead, as a function on lists of tokens, and the
--- test that one token is enough. A rule is read by its own form; there is no reading by hand of any production.
+-- What the parser computes: the reading of a rule with one token of look-ahead, as a function on
+-- lists of tokens, and the test that one token is enough. A rule is read by its own form; there is
+-- no reading by hand of any production.
 use Rattle.std.specs.Prelude.{ℕ, zero, suc, Bool, true, false, not, ◌&&◌, ◌||◌, if◌then◌else◌, List, [], ◌∷◌, ◌++◌, length, Option, Some, None, Result, Ok, Err}
 use Rattle.std.specs.Str.{bytes_eq}
 use Rattle.idl_lexer.specs.declared.token.Kind.{Kind}
@@ -83,7 +84,8 @@ differ (Some text) (Some other) = not (bytes_eq text other)
 
 -- no token is both symbols
 unfoldable pub excludes : Terminal → Terminal → Bool
-excludes one other = not (same_kind (kind_of one) (kind_of other)) || differ (spelling one) (spelling other)
+excludes one other =
+    not (same_kind (kind_of one) (kind_of other)) || differ (spelling one) (spelling other)
 
 abbrev pub excludes_all : Terminal → List Terminal → Bool
 excludes_all symbol [] = true
@@ -94,14 +96,16 @@ abbrev pub apart : List Terminal → List Terminal → Bool
 apart [] others = true
 apart (symbol ∷ symbols) others = excludes_all symbol others && apart symbols others
 
--- one token of look-ahead is enough: only the last of several alternatives may be empty, alternatives begin apart, and
--- what follows a reading begins apart from what the reading may go on with
+-- one token of look-ahead is enough: only the last of several alternatives may be empty,
+-- alternatives begin apart, and what follows a reading begins apart from what the reading may go
+-- on with
 abbrev pub is_predictive : {A : Type 0} → Rule A → Bool
 is_predictive (token symbol) = true
 is_predictive (nothing x) = true
 is_predictive (map f p) = is_predictive p
 is_predictive (both p q) = is_predictive p && is_predictive q && apart (goes_on p) (starts q)
-is_predictive (or p q) = is_predictive p && is_predictive q && not (is_nullable p) && apart (starts p) (starts q)
+is_predictive (or p q) =
+    is_predictive p && is_predictive q && not (is_nullable p) && apart (starts p) (starts q)
 is_predictive (many p) = is_predictive p && not (is_nullable p) && apart (goes_on p) (starts p)
 is_predictive (lined p) = is_predictive p && not (is_nullable p)
 
@@ -123,18 +127,21 @@ read_token symbol [] = Err []
 read_token symbol (t ∷ ts) = if fits t symbol then Ok (pair t.text ts) else Err (t ∷ ts)
 
 -- readings one behind the other, as long as the next token begins one
-abbrev pub read_many : {A : Type 0} → (List Lexeme → Outcome A) → List Terminal → ℕ → List Lexeme → Outcome (List A)
+abbrev pub read_many : {A : Type 0} → (List Lexeme → Outcome A)
+    → List Terminal → ℕ → List Lexeme → Outcome (List A)
 read_many f symbols zero ts = Ok (pair [] ts)
 read_many f symbols (suc fuel) ts =
     if next_in symbols ts
-    then and_then (f ts) (λ x rest. and_then (read_many f symbols fuel rest) (λ xs end. Ok (pair (x ∷ xs) end)))
+    then and_then (f ts) (λ x rest.
+    and_then (read_many f symbols fuel rest) (λ xs end. Ok (pair (x ∷ xs) end)))
     else Ok (pair [] ts)
 
 abbrev pub read : {A : Type 0} → Rule A → List Lexeme → Outcome A
 read (token symbol) ts = read_token symbol ts
 read (nothing x) ts = Ok (pair x ts)
 read (map f p) ts = and_then (read p ts) (λ a rest. Ok (pair (f a) rest))
-read (both p q) ts = and_then (read p ts) (λ a rest. and_then (read q rest) (λ b end. Ok (pair (pair a b) end)))
+read (both p q) ts =
+    and_then (read p ts) (λ a rest. and_then (read q rest) (λ b end. Ok (pair (pair a b) end)))
 read (or p q) ts = if next_in (starts p) ts then read p ts else read q ts
 read (many p) ts = read_many (read p) (starts p) (length ts) ts
 read (lined p) ts = and_then (read p ts) (λ a rest. Ok (pair (pair (line_of ts) a) rest))

@@ -3,8 +3,9 @@ use Rattle.std.specs.Prelude.{◌≡◌, ℕ, true, ◌⊎◌, List, [], ◌∷�
 use Rattle.idl_grammar.specs.declared.terminal.Terminal.{Terminal}
 use Rattle.idl_grammar.specs.Terminals.{Lexeme, fits}
 
--- A rule whose readings are trees of a type: a token of a symbol, nothing at all, a reading made into another tree, one
--- rule and then another, either of two, any number of readings one behind the other, and a reading with the line of its first token.
+-- A rule whose readings are trees of a type: a token of a symbol, nothing at all, a reading made
+-- into another tree, one rule and then another, either of two, any number of readings one behind
+-- the other, and a reading with the line of its first token.
 pub data Rule : Type 0 → Type 1 where
   token : Terminal → Rule (List ℕ)
   nothing : {A : Type 0} → A → Rule A
@@ -26,23 +27,30 @@ Each R ts (x ∷ xs) = (u : List Lexeme) × (v : List Lexeme) × (ts ≡ u ++ v)
 
 -- the tree is a reading of these tokens, of all of them
 abbrev pub Reads : {A : Type 0} → Rule A → List Lexeme → A → Type 0
-Reads (token symbol) ts text = (t : Lexeme) × (ts ≡ t ∷ []) × (fits t symbol ≡ true) × (text ≡ t.text)
+Reads (token symbol) ts text =
+    (t : Lexeme) × (ts ≡ t ∷ []) × (fits t symbol ≡ true) × (text ≡ t.text)
 Reads (nothing x) ts a = (ts ≡ []) × (a ≡ x)
 Reads (map {A = A} f p) ts b = (a : A) × Reads p ts a × (b ≡ f a)
-Reads (both p q) ts ab = (u : List Lexeme) × (v : List Lexeme) × (ts ≡ u ++ v) × Reads p u ab.0 × Reads q v ab.1
+Reads (both p q) ts ab =
+    (u : List Lexeme) × (v : List Lexeme) × (ts ≡ u ++ v) × Reads p u ab.0 × Reads q v ab.1
 Reads (or p q) ts a = Reads p ts a ⊎ Reads q ts a
 Reads (many p) ts xs = Each (Reads p) ts xs
 Reads (lined p) ts a = Reads p ts a.1 × (a.0 ≡ line_of ts)
 
--- The tokens are a prefix form of the rule: of a token that token or nothing, and of a sequence whole readings of the
--- first symbols and then a prefix form of the next. The symbols of a repetition count one by one.
+-- The tokens are a prefix form of the rule: of a token that token or nothing, and of a sequence
+-- whole readings of the first symbols and then a prefix form of the next. The symbols of a
+-- repetition count one by one.
 abbrev pub Begins : {A : Type 0} → Rule A → List Lexeme → Type 0
 Begins (token symbol) ts = (ts ≡ []) ⊎ ((text : List ℕ) × Reads (token symbol) ts text)
 Begins (nothing x) ts = ts ≡ []
 Begins (map f p) ts = Begins p ts
-Begins (both {A = A} p q) ts = Begins p ts ⊎ ((u : List Lexeme) × (v : List Lexeme) × (ts ≡ u ++ v) × ((a : A) × Reads p u a) × Begins q v)
+Begins (both {A = A} p q) ts =
+    Begins p ts
+    ⊎ ((u : List Lexeme) × (v : List Lexeme) × (ts ≡ u ++ v) × ((a : A) × Reads p u a) × Begins q v)
 Begins (or p q) ts = Begins p ts ⊎ Begins q ts
-Begins (many {A = A} p) ts = (u : List Lexeme) × (v : List Lexeme) × (ts ≡ u ++ v) × ((xs : List A) × Each (Reads p) u xs) × Begins p v
+Begins (many {A = A} p) ts =
+    (u : List Lexeme) × (v : List Lexeme) × (ts ≡ u ++ v)
+    × ((xs : List A) × Each (Reads p) u xs) × Begins p v
 Begins (lined p) ts = Begins p ts
 
 -- ---- how rules are written

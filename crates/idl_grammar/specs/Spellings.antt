@@ -1,23 +1,67 @@
 -- What a tree keeps of the spelling of a token.
-use Rattle.std.specs.Prelude.{ℕ, Bool, ◌||◌, ◌==◌, List, drop}
-use Rattle.std.specs.List.{before_first, after_first, prefix_len}
+use Rattle.std.specs.Prelude.{◌≡◌, ℕ, List, [], ◌∷◌, ◌++◌, drop, IsTrue, codes}
+use Rattle.std.specs.List.{list_all}
+use Rattle.idl_lexer.specs.declared.class.Class.TheVariants.{NameByte, Gap, Quoted, Parenthesized}
+use Rattle.idl_lexer.specs.Classes.{is_in}
+use Rattle.idl_lexer.specs.Parts.{some, short}
+use Rattle.idl_lexer.specs.Reading.{front, behind}
+use Rattle.idl_lexer.specs.Spelling.{IsWord}
+
+abbrev pub quote : List ℕ
+quote = 34 ∷ []
+
+-- ---- an include: `#include`, spaces and tabs, and the file's name in quotes
+
+-- 1 to 255 printable bytes of ASCII other than a quote
+pub record IsFileName (name : List ℕ) : Type 0 where
+  pub quoted : IsTrue (list_all (is_in Quoted) name)
+  pub short : IsTrue (short name)
+
+-- the spelling is an include of this file
+pub record IsInclude (spelling name : List ℕ) : Type 0 where
+  pub gap : List ℕ
+  pub whole : spelling ≡ codes "#include" ++ gap ++ quote ++ name ++ quote
+  pub gaps : IsTrue (list_all (is_in Gap) gap)
+  pub parted : IsTrue (some gap)
+  pub named : IsFileName name
 
 -- the bytes between the quotes of an include
 unfoldable pub quoted : List ℕ → List ℕ
-quoted text = before_first (λ c. c == 34) (after_first (λ c. c == 34) text)
+quoted text = front Quoted (drop 1 (behind Gap (drop 8 text)))
 
--- a space or a tab
-abbrev pub is_gap : ℕ → Bool
-is_gap c = c == 32 || c == 9
+-- ---- a native: `native`, spaces and tabs, a name, perhaps spaces and tabs, and a text in parentheses
 
--- the bytes behind the spaces and tabs at the front
-abbrev pub behind_gaps : List ℕ → List ℕ
-behind_gaps text = drop (prefix_len is_gap text) text
+-- one byte or more between parentheses, none of which is one, or a line feed
+pub record IsNativeText (text : List ℕ) : Type 0 where
+  pub enclosed : IsTrue (list_all (is_in Parenthesized) text)
+  pub some : IsTrue (some text)
 
--- The word of a native, which stands behind `native` and its spaces and tabs, and before the next of these or the `(`.
+-- the spelling is a native of this name and this text
+pub record IsNative (spelling name text : List ℕ) : Type 0 where
+  pub gap : List ℕ
+  pub space : List ℕ
+  pub whole : spelling ≡ codes "native" ++ gap ++ name ++ space ++ codes "(" ++ text ++ codes ")"
+  pub gaps : IsTrue (list_all (is_in Gap) gap)
+  pub parted : IsTrue (some gap)
+  pub named : IsWord name
+  pub spaces : IsTrue (list_all (is_in Gap) space)
+  pub written : IsNativeText text
+
+-- no two names and no two texts are those of the spelling
+abbrev pub IsReadOnce : List ℕ → Type 0
+IsReadOnce spelling =
+    (name text other_name other_text : List ℕ) → IsNative spelling name text
+    → IsNative spelling other_name other_text → (name ≡ other_name) × (text ≡ other_text)
+
+-- what stands behind the word `native` and its gap
+abbrev pub behind_native : List ℕ → List ℕ
+behind_native spelling = behind Gap (drop 6 spelling)
+
+-- the name of a native
 unfoldable pub native_name : List ℕ → List ℕ
-native_name text = before_first (λ c. is_gap c || c == 40) (behind_gaps (drop 6 text))
+native_name spelling = front NameByte (behind_native spelling)
 
 -- the bytes between the parentheses of a native
 unfoldable pub native_text : List ℕ → List ℕ
-native_text text = before_first (λ c. c == 41) (after_first (λ c. c == 40) text)
+native_text spelling =
+    front Parenthesized (drop 1 (behind Gap (behind NameByte (behind_native spelling))))

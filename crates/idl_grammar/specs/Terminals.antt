@@ -1,9 +1,10 @@
 -- The terminal symbols of the grammar, and which tokens they are.
-use Rattle.std.specs.Prelude.{ℕ, Bool, ◌&&◌, ◌==◌, List, codes, map}
+use Rattle.std.specs.Prelude.{◌≡◌, ◌⊎◌, ℕ, Bool, ◌&&◌, ◌==◌, List, codes, map}
 use Rattle.std.specs.Str.{bytes_eq}
 use Rattle.idl_lexer.specs.declared.token.Kind.{Kind}
 use Rattle.idl_lexer.specs.declared.token.Kind.TheVariants as kind
 use Rattle.idl_lexer.specs.declared.token.Token.{Token}
+use Rattle.idl_lexer.specs.declared.token.Tokens.{Tokens}
 use Rattle.idl_lexer.specs.Tokens.{spelling_of}
 use Rattle.idl_grammar.specs.declared.terminal.Key.{Key}
 use Rattle.idl_grammar.specs.declared.terminal.Key.TheVariants as key
@@ -20,11 +21,16 @@ pub record Lexeme : Type 0 where
 
 -- a token of a text
 abbrev pub lexeme_of : List ℕ → Token → Lexeme
-lexeme_of source token = record { kind = token.kind; text = spelling_of source token; line = token.line }
+lexeme_of source token =
+    record { kind = token.kind; text = spelling_of source token; line = token.line }
 
 -- the tokens of a text
 abbrev pub lexemes_of : List ℕ → List Token → List Lexeme
 lexemes_of source tokens = map (lexeme_of source) tokens
+
+-- the tokens of the text beside them
+abbrev pub lexemes : Tokens → List Lexeme
+lexemes tokens = lexemes_of tokens.source tokens.list
 
 -- how a keyword is spelled
 abbrev pub key_spelling : Key → List ℕ
@@ -68,6 +74,13 @@ mark_spelling mark.Star = codes "*"
 mark_spelling mark.Bar = codes "|"
 mark_spelling mark.Shl = codes "<<"
 mark_spelling mark.Shr = codes ">>"
+
+-- the keyword `native`, which begins a token of its own and is no symbol, or one of these
+abbrev pub IsKeyText : List ℕ → Type 0
+IsKeyText text = (text ≡ codes "native") ⊎ ((k : Key) × (text ≡ key_spelling k))
+
+abbrev pub IsMarkText : List ℕ → Type 0
+IsMarkText text = (m : Mark) × (text ≡ mark_spelling m)
 
 -- a number for each kind
 abbrev pub kind_number : Kind → ℕ

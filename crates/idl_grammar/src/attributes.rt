@@ -2,7 +2,7 @@
 
 ghost use Rattle.idl_grammar.specs.Grammar as spec;
 ghost use Rattle.idl_grammar.specs.Read.{read};
-ghost use Rattle.idl_grammar.specs.Gives.{Adds, Gives, more, plain};
+ghost use Rattle.idl_grammar.specs.Gives.{Collects, Gives};
 
 use crate::cursor::{Cursor, Stop, text, word};
 use crate::terminal::{Key, Mark, Terminal};
@@ -61,7 +61,7 @@ fn more_attributes(
     found: &mut List<Attr>,
     cursor: &mut Cursor<'_>,
 ) -> Result<(), Stop>
-    ensures { Adds (more plain found.old (read spec.more_attributes cursor.old)) result found.new cursor.new }
+    ensures { Collects spec.more_attributes found.old cursor.old result found.new cursor.new }
 {
     'turns: while cursor.sees_mark(Mark::Comma) {
         cursor.take_mark(Mark::Comma)?;

@@ -3,7 +3,7 @@
 ghost use Rattle.idl_grammar.specs.Grammar as spec;
 ghost use Rattle.idl_grammar.specs.Read.{next_in, read, starts};
 ghost use Rattle.idl_grammar.specs.declared.level.Level.TheVariants as levels;
-ghost use Rattle.idl_grammar.specs.Gives.{Adds, Gives, more, plain};
+ghost use Rattle.idl_grammar.specs.Gives.{Collects, Gives};
 ghost use Rattle.std.specs.Prelude.{◌≡◌};
 
 use crate::cursor::{Cursor, Stop, means, text, word};
@@ -70,7 +70,7 @@ fn number_step(
     steps: &mut List<ExprStep>,
     cursor: &mut Cursor<'_>,
 ) -> Result<(), Stop>
-    ensures { Adds (more plain steps.old (read spec.number_step cursor.old)) result steps.new cursor.new }
+    ensures { Collects spec.number_step steps.old cursor.old result steps.new cursor.new }
 {
     let number = text(alloc, cursor, Terminal::Number)?;
     steps.push(ExprStep::Number(number))?;
@@ -79,7 +79,7 @@ fn number_step(
 
 #[tactic(auto, unfolding(crate::specs::Grammar::name_step))]
 fn name_step(alloc: Global, steps: &mut List<ExprStep>, cursor: &mut Cursor<'_>) -> Result<(), Stop>
-    ensures { Adds (more plain steps.old (read spec.name_step cursor.old)) result steps.new cursor.new }
+    ensures { Collects spec.name_step steps.old cursor.old result steps.new cursor.new }
 {
     let name = word(alloc, cursor)?;
     steps.push(ExprStep::Name(name))?;
@@ -89,7 +89,7 @@ fn name_step(alloc: Global, steps: &mut List<ExprStep>, cursor: &mut Cursor<'_>)
 /// An operand at which nothing more may be opened.
 #[tactic(auto, using(crate::proofs::Starts::operand_starts), unfolding(crate::specs::Grammar::simple))]
 fn simple(alloc: Global, steps: &mut List<ExprStep>, cursor: &mut Cursor<'_>) -> Result<(), Stop>
-    ensures { Adds (more plain steps.old (read spec.simple cursor.old)) result steps.new cursor.new }
+    ensures { Collects spec.simple steps.old cursor.old result steps.new cursor.new }
 {
     if cursor.sees(Terminal::Number) {
         number_step(alloc, steps, cursor)
@@ -106,7 +106,8 @@ fn negation(
     steps: &mut List<ExprStep>,
     cursor: &mut Cursor<'_>,
 ) -> Result<(), Stop>
-    ensures { Adds (more plain steps.old (read (spec.negation (spec.unary depth)) cursor.old)) result steps.new cursor.new }
+    ensures { Collects (spec.negation (spec.unary depth))
+        steps.old cursor.old result steps.new cursor.new }
 {
     cursor.take_mark(Mark::Minus)?;
     unary(alloc, depth, steps, cursor)?;
@@ -122,7 +123,8 @@ fn parentheses(
     steps: &mut List<ExprStep>,
     cursor: &mut Cursor<'_>,
 ) -> Result<(), Stop>
-    ensures { Adds (more plain steps.old (read (spec.parentheses (spec.unary depth)) cursor.old)) result steps.new cursor.new }
+    ensures { Collects (spec.parentheses (spec.unary depth))
+        steps.old cursor.old result steps.new cursor.new }
 {
     cursor.take_mark(Mark::LParen)?;
     chain(alloc, Level::Union, depth, steps, cursor)?;
@@ -139,7 +141,8 @@ fn within(
     steps: &mut List<ExprStep>,
     cursor: &mut Cursor<'_>,
 ) -> Result<(), Stop>
-    ensures { Adds (more plain steps.old (read (spec.within (spec.unary depth)) cursor.old)) result steps.new cursor.new }
+    ensures { Collects (spec.within (spec.unary depth))
+        steps.old cursor.old result steps.new cursor.new }
 {
     if cursor.sees(Terminal::Number) {
         number_step(alloc, steps, cursor)
@@ -161,7 +164,7 @@ fn unary(
     steps: &mut List<ExprStep>,
     cursor: &mut Cursor<'_>,
 ) -> Result<(), Stop>
-    ensures { Adds (more plain steps.old (read (spec.unary depth) cursor.old)) result steps.new cursor.new }
+    ensures { Collects (spec.unary depth) steps.old cursor.old result steps.new cursor.new }
 {
     if depth == 0 {
         simple(alloc, steps, cursor)
@@ -180,7 +183,8 @@ fn operand(
     steps: &mut List<ExprStep>,
     cursor: &mut Cursor<'_>,
 ) -> Result<(), Stop>
-    ensures { Adds (more plain steps.old (read (spec.operands level (spec.unary depth)) cursor.old)) result steps.new cursor.new }
+    ensures { Collects (spec.operands level (spec.unary depth))
+        steps.old cursor.old result steps.new cursor.new }
 {
     match level {
         Level::Product => unary(alloc, depth, steps, cursor),
@@ -199,7 +203,8 @@ fn chain(
     steps: &mut List<ExprStep>,
     cursor: &mut Cursor<'_>,
 ) -> Result<(), Stop>
-    ensures { Adds (more plain steps.old (read (spec.chain (spec.operator level) (spec.operands level (spec.unary depth))) cursor.old)) result steps.new cursor.new }
+    ensures { Collects (spec.chain (spec.operator level) (spec.operands level (spec.unary depth)))
+        steps.old cursor.old result steps.new cursor.new }
 {
     operand(alloc, level, depth, steps, cursor)?;
     'turns: while sees_operator(level, cursor) {

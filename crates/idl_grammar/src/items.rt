@@ -4,7 +4,7 @@ ghost use Rattle.std.specs.Prelude.{◌≡◌};
 ghost use Rattle.idl_grammar.specs.Grammar as spec;
 ghost use Rattle.idl_grammar.specs.Rule as rule;
 ghost use Rattle.idl_grammar.specs.Read.{read};
-ghost use Rattle.idl_grammar.specs.Gives.{Adds, Gives, more, plain};
+ghost use Rattle.idl_grammar.specs.Gives.{Collects, Gives};
 
 use crate::attributes::any_attributes;
 use crate::cursor::{Cursor, Stop, means, word};
@@ -31,7 +31,8 @@ fn parent(alloc: Global, cursor: &mut Cursor<'_>) -> Result<Option<Bytes>, Stop>
 /// What makes a forward declaration of the interface of this name.
 #[tactic(auto, unfolding(crate::specs::Grammar::forward))]
 fn forward(name: Bytes, attrs: List<Attr>, cursor: &mut Cursor<'_>) -> Result<ItemBody, Stop>
-    ensures { Gives (read (rule.map (λ f. f name attrs) spec.forward) cursor.old) result cursor.new }
+    ensures { Gives (read (rule.map (λ f. f name attrs) spec.forward) cursor.old)
+        result cursor.new }
 {
     cursor.take_mark(Mark::Semi)?;
     Ok(ItemBody::Forward { name })
@@ -45,7 +46,8 @@ fn definition(
     attrs: List<Attr>,
     cursor: &mut Cursor<'_>,
 ) -> Result<ItemBody, Stop>
-    ensures { Gives (read (rule.map (λ f. f name attrs) spec.definition) cursor.old) result cursor.new }
+    ensures { Gives (read (rule.map (λ f. f name attrs) spec.definition) cursor.old)
+        result cursor.new }
 {
     let parent = parent(alloc, cursor)?;
     cursor.take_mark(Mark::LBrace)?;
@@ -147,7 +149,7 @@ const ITEM: [Terminal; 6] = [
 
 /// Items, as many as stand there, put behind those that were found.
 fn more_items(alloc: Global, found: &mut List<Item>, cursor: &mut Cursor<'_>) -> Result<(), Stop>
-    ensures { Adds (more plain found.old (read spec.items cursor.old)) result found.new cursor.new }
+    ensures { Collects spec.items found.old cursor.old result found.new cursor.new }
 {
     'turns: while cursor.sees_any(&ITEM) {
         let one = one_item(alloc, cursor)?;

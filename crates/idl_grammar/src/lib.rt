@@ -5,6 +5,7 @@ mod attributes;
 mod cursor;
 mod expressions;
 mod items;
+pub mod laws;
 mod level;
 mod members;
 mod parser;
@@ -20,6 +21,3 @@ pub use tree::{
     Attr, AttrValue, ClosedFile, Expr, ExprStep, IdlFile, Interface, Item, ItemBody, Member,
     MemberBody, ParamDecl, TypeName,
 };
-
-#[cfg(test)]
-mod tests;

@@ -4,7 +4,7 @@ ghost use Rattle.std.specs.Prelude.{◌≡◌};
 ghost use Rattle.idl_grammar.specs.Grammar as spec;
 ghost use Rattle.idl_grammar.specs.Rule as rule;
 ghost use Rattle.idl_grammar.specs.Read.{read};
-ghost use Rattle.idl_grammar.specs.Gives.{Adds, Gives, more, plain};
+ghost use Rattle.idl_grammar.specs.Gives.{Collects, Gives};
 
 use crate::attributes::any_attributes;
 use crate::cursor::{Cursor, Stop, means, word};
@@ -50,7 +50,7 @@ fn more_parameters(
     found: &mut List<ParamDecl>,
     cursor: &mut Cursor<'_>,
 ) -> Result<(), Stop>
-    ensures { Adds (more plain found.old (read spec.more_parameters cursor.old)) result found.new cursor.new }
+    ensures { Collects spec.more_parameters found.old cursor.old result found.new cursor.new }
 {
     'turns: while cursor.sees_mark(Mark::Comma) {
         cursor.take_mark(Mark::Comma)?;
@@ -246,7 +246,7 @@ fn more_members(
     found: &mut List<Member>,
     cursor: &mut Cursor<'_>,
 ) -> Result<(), Stop>
-    ensures { Adds (more plain found.old (read spec.members cursor.old)) result found.new cursor.new }
+    ensures { Collects spec.members found.old cursor.old result found.new cursor.new }
 {
     'turns: while cursor.sees_any(&MEMBER) {
         let one = one_member(alloc, cursor)?;

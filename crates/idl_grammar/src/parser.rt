@@ -1,12 +1,13 @@
 //! The tree of a list of tokens, or the place at which it stops to be one.
 
-ghost use Rattle.std.specs.Prelude.{◌≡◌, ◌≤◌, ◌<◌, ◌-◌, ◌^◌, length, IfErr, IfOk};
-ghost use Rattle.idl_grammar.specs.declared.syntax_error.SyntaxError.TheVariants as fault;
-ghost use Rattle.idl_grammar.specs.Terminals.{lexemes_of};
+ghost use Rattle.std.specs.Prelude.{◌≡◌, ◌≤◌, ◌<◌, ◌^◌, length, IfErr, IfOk};
+ghost use Rattle.idl_grammar.specs.Terminals.{lexemes, lexemes_of};
 ghost use Rattle.idl_grammar.specs.Grammar as spec;
 ghost use Rattle.idl_grammar.specs.Read.{read};
 ghost use Rattle.idl_grammar.specs.Gives.{Gives, whole};
-ghost use Rattle.idl_grammar.specs.Places.{HasNoTree, IfAt, IsOnlyTree, IsReach, last_line, line_at, line_or};
+ghost use Rattle.idl_lexer.specs.Tokens.{AreLawful};
+ghost use Rattle.idl_grammar.specs.Places.{HasNoTree, IfAt, IsOnlyTree, IsReach, fault_before, last_line, line_at};
+ghost use Rattle.idl_grammar.specs.Texts.{IsLawfulFile};
 
 use crate::cursor::{Cursor, Stop};
 use crate::items::file;
@@ -42,7 +43,7 @@ fn fault_at(tokens: &Tokens, cursor: &Cursor<'_>) -> SyntaxError
     requires few { length tokens.now.list < 2 ^ 32 }
     requires within { length cursor.now ≤ length tokens.now.list }
     ensures { result
-        ≡ fault.At (length tokens.now.list - length cursor.now) (line_or (last_line (lexemes_of tokens.now.source tokens.now.list)) cursor.now) }
+        ≡ fault_before (length tokens.now.list) (last_line (lexemes tokens.now)) cursor.now }
 {
     let at = (tokens.list.len() - cursor.left()) as u32;
     let line = if cursor.left() == 0 {
@@ -55,19 +56,27 @@ fn fault_at(tokens: &Tokens, cursor: &Cursor<'_>) -> SyntaxError
 
 /// The syntax tree of a file's tokens, of which there are fewer than 2^32.
 ///
-/// Ok gives the one file that the grammar of XPIDL relates to the tokens, and `At` comes exactly where there is none:
-/// `at` is the length of the longest prefix of the tokens that is a prefix form of a file, and `line` is the line of the
-/// next token, or of the last one at the end. No tokens at all are the empty file. Want of memory gives `Memory`.
+/// Ok gives the one file that the grammar of XPIDL relates to the tokens, and `At` comes exactly
+/// where there is none: `at` is the length of the longest prefix of the tokens that is a prefix
+/// form of a file, and `line` is the line of the next token, or of the last one at the end. No
+/// tokens at all are the empty file. Want of memory gives `Memory`.
 pub fn parse(alloc: Global, tokens: &Tokens) -> Result<IdlFile, SyntaxError>
     requires { length tokens.now.list < 2 ^ 32 }
 
     // The one tree that the grammar relates to the tokens.
-    ensures tree { IfOk result (IsOnlyTree spec.file (lexemes_of tokens.now.source tokens.now.list)) }
+    ensures tree { IfOk result (IsOnlyTree spec.file (lexemes tokens.now)) }
 
-    // A fault has its place only where there is no tree, and it is as far as prefix forms of a file reach.
-    ensures none { IfErr result (λ e. IfAt e (λ at line. HasNoTree spec.file (lexemes_of tokens.now.source tokens.now.list))) }
-    ensures place { IfErr result (λ e. IfAt e (λ at line. IsReach spec.file (lexemes_of tokens.now.source tokens.now.list) at)) }
-    ensures line { IfErr result (λ e. IfAt e (λ at line. line ≡ line_at (lexemes_of tokens.now.source tokens.now.list) at)) }
+    // There are no more items than tokens.
+    ensures few { IfOk result (λ file. length file.items ≤ length tokens.now.list) }
+
+    // The tree of lawful tokens is a lawful one.
+    ensures lawful { AreLawful tokens.now → IfOk result IsLawfulFile }
+
+    // A fault has its place only where there is no tree, and it is as far as prefix forms of a
+    // file reach.
+    ensures none { IfErr result (λ e. IfAt e (λ _ _. HasNoTree spec.file (lexemes tokens.now))) }
+    ensures place { IfErr result (λ e. IfAt e (λ at _. IsReach spec.file (lexemes tokens.now) at)) }
+    ensures line { IfErr result (λ e. IfAt e (λ at line. line ≡ line_at (lexemes tokens.now) at)) }
 {
     let mut cursor = Cursor::new(tokens.source.as_slice(), tokens.list.as_slice());
     match whole_file(alloc, &mut cursor) {

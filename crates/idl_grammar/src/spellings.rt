@@ -1,93 +1,54 @@
 //! What a tree keeps of the spelling of a token.
 
-ghost use Rattle.std.specs.Prelude.{◌≡◌, ◌==◌, ◌≤◌, ◌||◌, drop, length, take};
-ghost use Rattle.std.specs.List.{after_first, before_first, position_or_len, prefix_len};
+ghost use Rattle.std.specs.Prelude.{◌≡◌, drop};
 ghost use Rattle.idl_grammar.specs.Spellings as spec;
 
-/// How many bytes stand before the first of this value.
-fn place_of(text: &[u8], byte: u8) -> usize
-    ensures value { result ≡ position_or_len (λ c. c == byte) text.now }
-    ensures within { result ≤ length text.now }
-{
-    text.iter().take_while(|c| **c != byte).count()
-}
+use idl_lexer::{Class, split_run};
 
-/// The bytes before the first of this value.
-fn before(text: &[u8], byte: u8) -> &[u8]
-    ensures { result.now ≡ before_first (λ c. c == byte) text.now }
+/// The bytes behind so many.
+fn skip(text: &[u8], count: usize) -> &[u8]
+    ensures { result.now ≡ drop count text.now }
 {
-    &text[..place_of(text, byte)]
-}
-
-/// The bytes behind the first of this value.
-fn behind(text: &[u8], byte: u8) -> &[u8]
-    ensures { result.now ≡ after_first (λ c. c == byte) text.now }
-{
-    let at = place_of(text, byte);
-    if at < text.len() {
-        &text[at + 1..]
-    } else {
-        &[]
+    match text.get(count..) {
+        Some(rest) => rest,
+        None => &[],
     }
 }
 
 /// The bytes between the quotes of an include.
 #[tactic(auto, unfolding(crate::specs::Spellings::quoted))]
-pub fn quoted(text: &[u8]) -> &[u8]
-    ensures { result.now ≡ spec.quoted text.now }
+pub fn quoted(spelling: &[u8]) -> &[u8]
+    ensures { result.now ≡ spec.quoted spelling.now }
 {
-    before(behind(text, b'"'), b'"')
+    let (_, behind_gap) = split_run(skip(spelling, b"#include".len()), Class::Gap);
+    let (name, _) = split_run(skip(behind_gap, 1), Class::Quoted);
+    name
+}
+
+/// What stands behind the word `native` and its gap.
+fn behind_native(spelling: &[u8]) -> &[u8]
+    ensures { result.now ≡ spec.behind_native spelling.now }
+{
+    let (_, behind_gap) = split_run(skip(spelling, b"native".len()), Class::Gap);
+    behind_gap
+}
+
+/// The name of a native.
+#[tactic(auto, unfolding(crate::specs::Spellings::native_name))]
+pub fn native_name(spelling: &[u8]) -> &[u8]
+    ensures { result.now ≡ spec.native_name spelling.now }
+{
+    let (name, _) = split_run(behind_native(spelling), Class::NameByte);
+    name
 }
 
 /// The bytes between the parentheses of a native.
 #[tactic(auto, unfolding(crate::specs::Spellings::native_text))]
-pub fn native_text(text: &[u8]) -> &[u8]
-    ensures { result.now ≡ spec.native_text text.now }
+pub fn native_text(spelling: &[u8]) -> &[u8]
+    ensures { result.now ≡ spec.native_text spelling.now }
 {
-    before(behind(text, b'('), b')')
-}
-
-/// A space or a tab.
-fn is_gap(byte: u8) -> bool
-    ensures { result ≡ spec.is_gap byte }
-{
-    byte == b' ' || byte == b'\t'
-}
-
-/// The bytes behind the spaces and tabs at the front.
-fn behind_gaps(text: &[u8]) -> &[u8]
-    ensures { result.now ≡ spec.behind_gaps text.now }
-{
-    &text[gaps(text)..]
-}
-
-/// How many spaces and tabs stand at the front.
-fn gaps(text: &[u8]) -> usize
-    ensures value { result ≡ prefix_len spec.is_gap text.now }
-    ensures within { result ≤ length text.now }
-{
-    text.iter().take_while(|byte| is_gap(**byte)).count()
-}
-
-/// How many bytes stand before the first that ends a native's word.
-fn word_length(text: &[u8]) -> usize
-    ensures value { result ≡ position_or_len (λ c. spec.is_gap c || c == 40) text.now }
-    ensures within { result ≤ length text.now }
-{
-    text.iter()
-        .take_while(|byte| !(is_gap(**byte) || **byte == b'('))
-        .count()
-}
-
-/// The word of a native.
-#[tactic(auto, unfolding(crate::specs::Spellings::native_name))]
-pub fn native_name(text: &[u8]) -> &[u8]
-    ensures { result.now ≡ spec.native_name text.now }
-{
-    let behind = match text {
-        [_, _, _, _, _, _, behind @ ..] => behind,
-        _ => &[],
-    };
-    let name = behind_gaps(behind);
-    &name[..word_length(name)]
+    let (_, behind_name) = split_run(behind_native(spelling), Class::NameByte);
+    let (_, parenthesis) = split_run(behind_name, Class::Gap);
+    let (text, _) = split_run(skip(parenthesis, 1), Class::Parenthesized);
+    text
 }

@@ -9,7 +9,7 @@ use Rattle.idl_lexer.specs.Classes.{is_in}
 use Rattle.idl_lexer.specs.Parts.{IsMadeOf, is_name, is_word}
 use Rattle.idl_lexer.specs.Spelling.{hexadecimal, decimal, iid, include, native, language, IsBlock, IsCode, is_mark}
 use Rattle.idl_lexer.specs.Pieces.{line_comment}
-use Rattle.idl_lexer.specs.Reading.{after, after_block, without_language, after_code, after_number, after_mark}
+use Rattle.idl_lexer.specs.Reading.{after, after_block, past_language, after_code, after_number, after_mark}
 use Rattle.idl_lexer.proofs.Basics.{chosen, guarded, mapped, either_of, both_true}
 use Rattle.idl_lexer.proofs.ByteLaws.{gap-unnamed, named-no_gap, hexadecimal-named, digit-named, some-more, any-more, some-first}
 use Rattle.idl_lexer.proofs.PartLaws.{parts-read, parts-longest, IsGreedy, GoesFar}
@@ -161,8 +161,8 @@ block-again : (text next : List ℕ) → IsBlock text → after_block (text ++ n
 unfolding after_block
 block-again text next m = enclosed-again (codes "%{") 37 125 text next (λ same. omega arith) m
 
-language-reads : (bytes : List ℕ) → (text : List ℕ) × (bytes ≡ text ++ without_language bytes) × ((text ≡ []) ⊎ IsMadeOf language text)
-unfolding without_language
+language-reads : (bytes : List ℕ) → (text : List ℕ) × (bytes ≡ text ++ past_language bytes) × ((text ≡ []) ⊎ IsMadeOf language text)
+unfolding past_language
 language-reads bytes = by_answer (after language bytes) refl where
   by_answer : (o : Option (List ℕ)) → after language bytes ≡ o → (text : List ℕ) × (bytes ≡ text ++ unwrap_or o bytes) × ((text ≡ []) ⊎ IsMadeOf language text)
   by_answer None e = ([], refl, inl refl)
@@ -171,7 +171,7 @@ language-reads bytes = by_answer (after language bytes) refl where
 pub code-reads : (bytes rest : List ℕ) → after_code bytes ≡ Some rest → (text : List ℕ) × (bytes ≡ text ++ rest) × IsCode text
 unfolding after_code
 code-reads bytes rest e =
-    let m = mapped without_language (after_block bytes) rest e in
+    let m = mapped past_language (after_block bytes) rest e in
     let b = block-reads bytes m.0 m.1 in
     let l = language-reads m.0 in
     (b.0 ++ l.0, b.1 ∙ ap (λ xs. b.0 ++ xs) (l.1 ∙ ap (λ xs. l.0 ++ xs) m.2) ∙ sym (append_assoc b.0 l.0 rest), code b.0 l.0 b.2 l.2) where
@@ -179,19 +179,19 @@ code-reads bytes rest e =
       code block more b (inl n) = inl (rw (n, append-nil) b)
       code block more b (inr l) = inr (block, more, refl, b, l)
 
-without-shorter : (bytes : List ℕ) → length (without_language bytes) ≤ length bytes
-without-shorter bytes = let l = language-reads bytes in omega (arith, ap length l.1, length-append l.0 (without_language bytes))
+without-shorter : (bytes : List ℕ) → length (past_language bytes) ≤ length bytes
+without-shorter bytes = let l = language-reads bytes in omega (arith, ap length l.1, length-append l.0 (past_language bytes))
 
-without-again : (more next : List ℕ) → IsMadeOf language more → length (without_language (more ++ next)) ≤ length next
-unfolding without_language
+without-again : (more next : List ℕ) → IsMadeOf language more → length (past_language (more ++ next)) ≤ length next
+unfolding past_language
 without-again more next m = let g = parts-longest language more next language-greedy m in rw g.1 g.2
 
 pub code-far : (text next : List ℕ) → IsCode text → GoesFar (after_code (text ++ next)) next
 unfolding after_code
-code-far text next (inl b) = (without_language next, rw (block-again text next b) refl, without-shorter next)
+code-far text next (inl b) = (past_language next, rw (block-again text next b) refl, without-shorter next)
 code-far text next (inr m) =
     let e : text ++ next ≡ m.0 ++ (m.1 ++ next) = rw m.2 (append_assoc m.0 m.1 next) in
-    (without_language (m.1 ++ next), rw (e, block-again m.0 (m.1 ++ next) m.3) refl, without-again m.1 next m.4)
+    (past_language (m.1 ++ next), rw (e, block-again m.0 (m.1 ++ next) m.3) refl, without-again m.1 next m.4)
 
 -- ---- marks
 

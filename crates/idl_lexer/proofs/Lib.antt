@@ -8,3 +8,4 @@ pub mod PieceLaws
 pub mod ChainLaws
 pub mod ReadLaws
 pub mod LexLaws
+pub mod Rules

@@ -17,9 +17,11 @@ abbrev pub IsMadeOf : List Part → List ℕ → Type 0
 IsMadeOf [] text = text ≡ []
 IsMadeOf (literal word ∷ parts) text = (more : List ℕ) × (text ≡ word ++ more) × IsMadeOf parts more
 IsMadeOf (counted class count ∷ parts) text =
-    (front : List ℕ) × (more : List ℕ) × (text ≡ front ++ more) × IsTrue (list_all (is_in class) front) × (length front ≡ count) × IsMadeOf parts more
+    (front : List ℕ) × (more : List ℕ) × (text ≡ front ++ more)
+    × IsTrue (list_all (is_in class) front) × (length front ≡ count) × IsMadeOf parts more
 IsMadeOf (run class fits ∷ parts) text =
-    (front : List ℕ) × (more : List ℕ) × (text ≡ front ++ more) × IsTrue (list_all (is_in class) front) × IsTrue (fits front) × IsMadeOf parts more
+    (front : List ℕ) × (more : List ℕ) × (text ≡ front ++ more)
+    × IsTrue (list_all (is_in class) front) × IsTrue (fits front) × IsMadeOf parts more
 
 -- tests of a run
 
@@ -40,9 +42,11 @@ is_name (c ∷ cs) = is_in NameStart c && nat_le (length (c ∷ cs)) 255
 -- the keywords of the language
 unfoldable pub keys : List (List ℕ)
 keys =
-    codes "attribute" ∷ codes "boolean" ∷ codes "char" ∷ codes "const" ∷ codes "double" ∷ codes "float" ∷ codes "in" ∷ codes "inout"
-    ∷ codes "interface" ∷ codes "long" ∷ codes "native" ∷ codes "octet" ∷ codes "out" ∷ codes "raises" ∷ codes "readonly" ∷ codes "short"
-    ∷ codes "string" ∷ codes "typedef" ∷ codes "unsigned" ∷ codes "void" ∷ codes "wchar" ∷ codes "wstring" ∷ []
+    codes "attribute" ∷ codes "boolean" ∷ codes "char" ∷ codes "const" ∷ codes "double"
+    ∷ codes "float" ∷ codes "in" ∷ codes "inout" ∷ codes "interface" ∷ codes "long"
+    ∷ codes "native" ∷ codes "octet" ∷ codes "out" ∷ codes "raises" ∷ codes "readonly"
+    ∷ codes "short" ∷ codes "string" ∷ codes "typedef" ∷ codes "unsigned" ∷ codes "void"
+    ∷ codes "wchar" ∷ codes "wstring" ∷ []
 
 unfoldable pub is_key : List ℕ → Bool
 is_key text = list_any (λ key. bytes_eq key text) keys

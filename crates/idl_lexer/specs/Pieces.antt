@@ -19,7 +19,8 @@ line_comment = literal (codes "//") ∷ run InLine any ∷ []
 
 -- from `//` up to the end of its line, or from `/*` to the first `*/`
 abbrev pub IsComment : List ℕ → List ℕ → Type 0
-IsComment text next = (IsMadeOf line_comment text × IsOver InLine next) ⊎ IsEnclosed (codes "/*") (codes "*/") text
+IsComment text next =
+    (IsMadeOf line_comment text × IsOver InLine next) ⊎ IsEnclosed (codes "/*") (codes "*/") text
 
 -- the text is a piece of this kind, where `next` follows it
 abbrev pub IsPiece : Option Kind → List ℕ → List ℕ → Type 0

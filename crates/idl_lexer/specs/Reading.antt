@@ -1,4 +1,4 @@
--- What the lexer computes, as functions on lists. Each reader gives what is left behind what it read.
+-- What the lexer computes, as functions on lists. Each reader gives what is left behind its part.
 use Rattle.std.specs.Prelude.{ℕ, zero, suc, Bool, ◌&&◌, ◌||◌, ◌==◌, if◌then◌else◌, List, [], ◌∷◌, Option, Some, None, option_and_then, unwrap_or, codes}
 use Rattle.std.specs.Option.{option_map, option_or}
 use Rattle.idl_lexer.specs.declared.class.Class.{Class}
@@ -27,7 +27,8 @@ after_literal (w ∷ word) (c ∷ cs) = if c == w then after_literal word cs els
 abbrev pub after_counted : Class → ℕ → List ℕ → Option (List ℕ)
 after_counted class zero bytes = Some bytes
 after_counted class (suc count) [] = None
-after_counted class (suc count) (c ∷ cs) = if is_in class c then after_counted class count cs else None
+after_counted class (suc count) (c ∷ cs) =
+    if is_in class c then after_counted class count cs else None
 
 unfoldable pub after_run : Class → (List ℕ → Bool) → List ℕ → Option (List ℕ)
 after_run class fits bytes = if fits (front class bytes) then Some (behind class bytes) else None
@@ -36,7 +37,8 @@ after_run class fits bytes = if fits (front class bytes) then Some (behind class
 abbrev pub after : List Part → List ℕ → Option (List ℕ)
 after [] bytes = Some bytes
 after (literal word ∷ parts) bytes = option_and_then (after parts) (after_literal word bytes)
-after (counted class count ∷ parts) bytes = option_and_then (after parts) (after_counted class count bytes)
+after (counted class count ∷ parts) bytes =
+    option_and_then (after parts) (after_counted class count bytes)
 after (run class fits ∷ parts) bytes = option_and_then (after parts) (after_run class fits bytes)
 
 -- what is left behind the first `a` that `b` follows
@@ -49,11 +51,11 @@ unfoldable pub after_block : List ℕ → Option (List ℕ)
 after_block bytes = option_and_then (after_pair 37 125) (after_literal (codes "%{") bytes)
 
 -- without the language of a block, where it stands at the front
-unfoldable pub without_language : List ℕ → List ℕ
-without_language bytes = unwrap_or (after language bytes) bytes
+unfoldable pub past_language : List ℕ → List ℕ
+past_language bytes = unwrap_or (after language bytes) bytes
 
 unfoldable pub after_code : List ℕ → Option (List ℕ)
-after_code bytes = option_map without_language (after_block bytes)
+after_code bytes = option_map past_language (after_block bytes)
 
 unfoldable pub after_number : List ℕ → Option (List ℕ)
 after_number bytes = option_or (after hexadecimal bytes) (after decimal bytes)
@@ -63,7 +65,8 @@ unfoldable pub after_mark : List ℕ → Option (List ℕ)
 after_mark [] = None
 after_mark (c ∷ []) = if is_in Single c then Some [] else None
 after_mark (c ∷ d ∷ more) =
-    if is_in Single c then Some (d ∷ more) else (if (c == d) && (c == 60 || c == 62) then Some more else None)
+    if is_in Single c then Some (d ∷ more)
+    else (if (c == d) && (c == 60 || c == 62) then Some more else None)
 
 abbrev pub of_kind : Kind → Option (List ℕ) → Option (Kind × List ℕ)
 of_kind what rest = option_map (λ r. (what, r)) rest
@@ -77,11 +80,13 @@ name_at bytes =
 -- what begins with a letter or `_`
 unfoldable pub lettered_at : List ℕ → Option (Kind × List ℕ)
 lettered_at bytes =
-    option_or (of_kind kind.Iid (after iid bytes)) (option_or (of_kind kind.Native (after native bytes)) (name_at bytes))
+    option_or (of_kind kind.Iid (after iid bytes))
+    (option_or (of_kind kind.Native (after native bytes)) (name_at bytes))
 
 -- what begins with a digit
 unfoldable pub numbered_at : List ℕ → Option (Kind × List ℕ)
-numbered_at bytes = option_or (of_kind kind.Iid (after iid bytes)) (of_kind kind.Number (after_number bytes))
+numbered_at bytes =
+    option_or (of_kind kind.Iid (after iid bytes)) (of_kind kind.Number (after_number bytes))
 
 -- the token at the front, and what is left behind it
 unfoldable pub token_at : List ℕ → Option (Kind × List ℕ)
@@ -95,7 +100,8 @@ token_at (c ∷ cs) =
 
 unfoldable pub after_comment : List ℕ → Option (List ℕ)
 after_comment bytes =
-    option_or (after line_comment bytes) (option_and_then (after_pair 42 47) (after_literal (codes "/*") bytes))
+    option_or (after line_comment bytes)
+    (option_and_then (after_pair 42 47) (after_literal (codes "/*") bytes))
 
 -- the piece at the front, and what is left behind it
 unfoldable pub piece_at : List ℕ → Option (Option Kind × List ℕ)

@@ -17,12 +17,18 @@ line_behind before = 1 + count_by (λ c. c == 10) before
 abbrev pub with_token : List ℕ → Option Kind → List ℕ → List Token → List Token
 with_token before None text tokens = tokens
 with_token before (Some what) text tokens =
-    record { kind = what; start = length before; end = length before + length text; line = line_behind before } ∷ tokens
+    record {
+      kind = what;
+      start = length before;
+      end = length before + length text;
+      line = line_behind before;
+    } ∷ tokens
 
 -- the tokens among the pieces, which stand behind these bytes
 abbrev pub tokens_behind : List ℕ → List Piece → List Token
 tokens_behind before [] = []
-tokens_behind before (p ∷ ps) = with_token before p.kind p.text (tokens_behind (before ++ p.text) ps)
+tokens_behind before (p ∷ ps) =
+    with_token before p.kind p.text (tokens_behind (before ++ p.text) ps)
 
 -- the text is a chain of pieces, and these are the tokens among them
 pub record AreTokens (text : List ℕ) (tokens : List Token) : Type 0 where
@@ -33,7 +39,9 @@ pub record AreTokens (text : List ℕ) (tokens : List Token) : Type 0 where
 
 -- text is left, and no piece begins it
 abbrev pub IsStuck : List ℕ → Type 0
-IsStuck rest = (rest ≢ []) × ((what : Option Kind) (text next : List ℕ) → rest ≡ text ++ next → IsPiece what text next → ⊥)
+IsStuck rest =
+    (rest ≢ [])
+    × ((what : Option Kind) (text next : List ℕ) → rest ≡ text ++ next → IsPiece what text next → ⊥)
 
 -- a chain of pieces reaches this place, and no piece begins there
 pub record IsNoToken (text : List ℕ) (at : ℕ) : Type 0 where
@@ -48,7 +56,7 @@ pub record IsNoToken (text : List ℕ) (at : ℕ) : Type 0 where
 abbrev pub spelling_of : List ℕ → Token → List ℕ
 spelling_of text token = slice_range text token.start token.end
 
--- the token stands in the text, and is the longest spelling at its place, with its kind and its line
+-- the token stands in the text, the longest spelling at its place, with its kind and its line
 pub record IsTokenOf (text : List ℕ) (token : Token) : Type 0 where
   pub filled : token.start < token.end
   pub within : token.end ≤ length text
@@ -60,7 +68,7 @@ abbrev pub StandInOrder : ℕ → List Token → ℕ → Type 0
 StandInOrder from [] to = from ≤ to
 StandInOrder from (t ∷ ts) to = (from ≤ t.start) × (t.start < t.end) × StandInOrder t.end ts to
 
--- the text has tokens or a place at which it has none, never both, and never two lists or two places
+-- the text has tokens or a place without one, never both, and never two lists or two places
 pub record HasOneReading (text : List ℕ) : Type 0 where
   pub one_list : (ts us : List Token) → AreTokens text ts → AreTokens text us → ts ≡ us
   pub one_place : (m n : ℕ) → IsNoToken text m → IsNoToken text n → m ≡ n
@@ -72,9 +80,15 @@ abbrev pub IfAt : LexError → (ℕ → ℕ → Type 0) → Type 0
 IfAt (fault.At at line) P = P at line
 IfAt fault.Memory P = Unit {0}
 
+-- the place without a token, and its line
+abbrev pub IsFault : List ℕ → LexError → Type 0
+IsFault text e = IfAt e (λ at line. IsNoToken text at × (line ≡ line_behind (take at text)))
+
 -- where the text has tokens, these are the answer, unless memory runs out
 abbrev pub IsGiven : List ℕ → Result Tokens LexError → Type 0
-IsGiven text answer = (ts : List Token) → AreTokens text ts → MatchResult answer (λ t. t.list ≡ ts) (λ e. e ≡ fault.Memory)
+IsGiven text answer =
+    (ts : List Token) → AreTokens text ts
+    → MatchResult answer (λ t. t.list ≡ ts) (λ e. e ≡ fault.Memory)
 
 -- these tokens are those of the text beside them
 abbrev pub AreLawful : Tokens → Type 0

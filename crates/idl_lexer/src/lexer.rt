@@ -1,7 +1,7 @@
 //! The tokens of a whole text, piece by piece.
 
 ghost use Rattle.std.specs.Prelude.{All, ◌≡◌, ◌≤◌, ◌+◌, ◌-◌, ◌==◌, length, take, count_by, IfErr, IfOk};
-ghost use Rattle.idl_lexer.specs.Tokens.{AreTokens, HasOneReading, IfAt, IsGiven, IsNoToken, IsTokenOf, StandInOrder, line_behind};
+ghost use Rattle.idl_lexer.specs.Tokens.{AreTokens, HasOneReading, IfAt, IsFault, IsGiven, IsNoToken, IsTokenOf, StandInOrder, line_behind};
 
 use crate::piece::piece;
 use crate::token::{LexError, Token, Tokens};
@@ -32,7 +32,7 @@ fn line_feeds(text: &[u8]) -> u32
 fn tokens_of(alloc: Global, source: &[u8]) -> Result<List<Token>, LexError>
     requires { length source.now ≤ MAX_SOURCE }
     ensures tokens { IfOk result (λ list. AreTokens source.now list) }
-    ensures refused { IfErr result (λ e. IfAt e (λ at line. IsNoToken source.now at × (line ≡ line_behind (take at source.now)))) }
+    ensures refused { IfErr result (IsFault source.now) }
 {
     let mut list = List::new(alloc);
     let mut rest = source;
@@ -60,9 +60,10 @@ fn tokens_of(alloc: Global, source: &[u8]) -> Result<List<Token>, LexError>
 
 /// The tokens of an XPIDL text of at most `MAX_SOURCE` bytes, with a copy of the text.
 ///
-/// A text is a chain of blanks, comments and tokens, each token the longest spelling at its place. `At` comes
-/// exactly where it is none: `at` is the first byte that the chain reaches and at which no piece begins, and `line`
-/// is one more than the line feeds before it. Want of memory gives `Memory`.
+/// A text is a chain of blanks, comments and tokens, each token the longest spelling at its place.
+/// `At` comes exactly where it is none: `at` is the first byte that the chain reaches and at which
+/// no piece begins, and `line` is one more than the line feeds before it. Want of memory gives
+/// `Memory`.
 pub fn lex(alloc: Global, source: &[u8]) -> Result<Tokens, LexError>
     requires { length source.now ≤ MAX_SOURCE }
 
@@ -72,11 +73,14 @@ pub fn lex(alloc: Global, source: &[u8]) -> Result<Tokens, LexError>
     ensures each { IfOk result (λ t. All (IsTokenOf source.now) t.list) }
     ensures in_order { IfOk result (λ t. StandInOrder 0 t.list (length source.now)) }
 
+    // There are no more tokens than bytes.
+    ensures few { IfOk result (λ t. length t.list ≤ length source.now) }
+
     // Where a text has tokens, these are given, unless memory runs out.
     ensures given { IsGiven source.now result }
 
     // The first place without a piece, and its line.
-    ensures place { IfErr result (λ e. IfAt e (λ at line. IsNoToken source.now at)) }
+    ensures place { IfErr result (λ e. IfAt e (λ at _. IsNoToken source.now at)) }
     ensures line { IfErr result (λ e. IfAt e (λ at line. line ≡ line_behind (take at source.now))) }
 
     // Each text has tokens or such a place, never both, and never two lists or two places.
@@ -86,6 +90,3 @@ pub fn lex(alloc: Global, source: &[u8]) -> Result<Tokens, LexError>
     let source = Bytes::copy(alloc, source)?;
     Ok(Tokens { source, list })
 }
-
-#[cfg(test)]
-mod tests;

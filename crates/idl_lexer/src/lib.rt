@@ -1,7 +1,7 @@
 //! The tokens of an XPIDL text.
 //!
-//! A text is a chain of pieces: blanks, comments and tokens. `lex` gives its tokens, or the first place
-//! at which no piece begins.
+//! A text is a chain of pieces: blanks, comments and tokens. `lex` gives its tokens, or the first
+//! place at which no piece begins.
 #![tactic(auto)]
 
 mod class;
@@ -11,5 +11,7 @@ mod piece;
 mod spelling;
 mod token;
 
+pub use class::Class;
 pub use lexer::{MAX_SOURCE, lex};
+pub use part::split_run;
 pub use token::{Kind, LexError, Token, Tokens};

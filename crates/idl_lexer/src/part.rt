@@ -78,7 +78,7 @@ fn all_of(bytes: &[u8], class: Class) -> bool
 }
 
 /// Behind so many bytes of a class.
-#[tactic(auto, using(crate::proofs::ReadLaws::counted_short, crate::proofs::ReadLaws::counted_by_all))]
+#[tactic(auto, using(crate::proofs::Rules::counts))]
 pub fn after_counted(bytes: &[u8], class: Class, count: usize) -> Option<&[u8]>
     ensures { option_copied result ≡ spec.after_counted class count bytes.now }
 {
@@ -98,7 +98,7 @@ fn run_length(bytes: &[u8], class: Class) -> usize
 }
 
 /// The bytes of a class at the front, as many as stand there, and what is left behind them.
-#[tactic(auto, using(crate::proofs::ReadLaws::front_by_length, crate::proofs::ReadLaws::behind_by_length))]
+#[tactic(auto, using(crate::proofs::Rules::runs))]
 pub fn split_run(bytes: &[u8], class: Class) -> (&[u8], &[u8])
     ensures front { result.0.now ≡ spec.front class bytes.now }
     ensures behind { result.1.now ≡ spec.behind class bytes.now }

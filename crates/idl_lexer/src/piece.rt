@@ -20,7 +20,8 @@ fn after_comment(bytes: &[u8]) -> Option<&[u8]>
     after_pair(body, b'*', b'/')
 }
 
-/// The kind of the piece at the front, which a blank and a comment have not, and what is left behind it.
+/// The kind of the piece at the front, which a blank and a comment have not, and what is left
+/// behind it.
 #[tactic(auto, unfolding(crate::specs::Reading::piece_at))]
 pub fn piece(bytes: &[u8]) -> Option<(Option<Kind>, &[u8])>
     ensures { option_map (λ p. (p.0, p.1.now)) result ≡ spec.piece_at bytes.now }

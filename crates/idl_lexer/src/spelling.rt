@@ -1,9 +1,10 @@
-//! Readers of the spellings of tokens. Each gives what is left behind the longest spelling at the front.
+//! Readers of the spellings of tokens. Each gives what is left behind the longest spelling at the
+//! front.
 
 ghost use Rattle.std.specs.Prelude.{◌≡◌};
 ghost use Rattle.std.specs.Option.{option_copied, option_map};
 ghost use Rattle.idl_lexer.specs.Reading as spec;
-ghost use Rattle.idl_lexer.specs.Spelling.{hexadecimal, iid, include, native, language};
+ghost use Rattle.idl_lexer.specs.Spelling.{decimal, hexadecimal, iid, include, native, language};
 
 use crate::class::Class;
 use crate::part::{
@@ -12,7 +13,7 @@ use crate::part::{
 };
 use crate::token::Kind;
 
-#[tactic(auto, using(crate::proofs::Basics::and_then_some), unfolding(crate::specs::Spelling::hexadecimal))]
+#[tactic(auto, using(crate::proofs::Rules::bind), unfolding(crate::specs::Spelling::hexadecimal))]
 fn after_hexadecimal(bytes: &[u8]) -> Option<&[u8]>
     ensures { option_copied result ≡ spec.after hexadecimal bytes.now }
 {
@@ -20,17 +21,24 @@ fn after_hexadecimal(bytes: &[u8]) -> Option<&[u8]>
     after_some(digits, Class::Hexadecimal)
 }
 
-#[tactic(auto, using(crate::proofs::Basics::and_then_some), unfolding(crate::specs::Reading::after_number, crate::specs::Spelling::decimal))]
+#[tactic(auto, using(crate::proofs::Rules::bind), unfolding(crate::specs::Spelling::decimal))]
+fn after_decimal(bytes: &[u8]) -> Option<&[u8]>
+    ensures { option_copied result ≡ spec.after decimal bytes.now }
+{
+    after_some(bytes, Class::Digit)
+}
+
+#[tactic(auto, unfolding(crate::specs::Reading::after_number))]
 fn after_number(bytes: &[u8]) -> Option<&[u8]>
     ensures { option_copied result ≡ spec.after_number bytes.now }
 {
     if let Some(rest) = after_hexadecimal(bytes) {
         return Some(rest);
     }
-    after_some(bytes, Class::Digit)
+    after_decimal(bytes)
 }
 
-#[tactic(auto, using(crate::proofs::Basics::and_then_some), unfolding(crate::specs::Spelling::iid))]
+#[tactic(auto, using(crate::proofs::Rules::bind), unfolding(crate::specs::Spelling::iid))]
 fn after_iid(bytes: &[u8]) -> Option<&[u8]>
     ensures { option_copied result ≡ spec.after iid bytes.now }
 {
@@ -45,7 +53,7 @@ fn after_iid(bytes: &[u8]) -> Option<&[u8]>
     after_counted(rest, Class::Hexadecimal, 12)
 }
 
-#[tactic(auto, using(crate::proofs::Basics::and_then_some), unfolding(crate::specs::Spelling::include))]
+#[tactic(auto, using(crate::proofs::Rules::bind), unfolding(crate::specs::Spelling::include))]
 fn after_include(bytes: &[u8]) -> Option<&[u8]>
     ensures { option_copied result ≡ spec.after include bytes.now }
 {
@@ -56,7 +64,7 @@ fn after_include(bytes: &[u8]) -> Option<&[u8]>
     after_literal(rest, b"\"")
 }
 
-#[tactic(auto, using(crate::proofs::Basics::and_then_some), unfolding(crate::specs::Spelling::native))]
+#[tactic(auto, using(crate::proofs::Rules::bind), unfolding(crate::specs::Spelling::native))]
 fn after_native(bytes: &[u8]) -> Option<&[u8]>
     ensures { option_copied result ≡ spec.after native bytes.now }
 {
@@ -93,7 +101,7 @@ fn after_block(bytes: &[u8]) -> Option<&[u8]>
     after_pair(body, b'%', b'}')
 }
 
-#[tactic(auto, using(crate::proofs::Basics::and_then_some), unfolding(crate::specs::Spelling::language))]
+#[tactic(auto, using(crate::proofs::Rules::bind), unfolding(crate::specs::Spelling::language))]
 fn after_language(bytes: &[u8]) -> Option<&[u8]>
     ensures { option_copied result ≡ spec.after language bytes.now }
 {
@@ -101,7 +109,7 @@ fn after_language(bytes: &[u8]) -> Option<&[u8]>
     after_literal(rest, b"C++")
 }
 
-#[tactic(auto, unfolding(crate::specs::Reading::after_code, crate::specs::Reading::without_language))]
+#[tactic(auto, unfolding(crate::specs::Reading::after_code, crate::specs::Reading::past_language))]
 fn after_code(bytes: &[u8]) -> Option<&[u8]>
     ensures { option_copied result ≡ spec.after_code bytes.now }
 {

@@ -51,7 +51,8 @@ pub struct Tokens {
 /// Why there are no tokens.
 #[derive(Debug, Drop, Error)]
 pub enum LexError {
-    /// No piece begins at the byte `at`, counted from 0, which is on the line `line`, counted from 1.
+    /// No piece begins at the byte `at`, counted from 0, which is on the line `line`, counted from
+    /// 1.
     #[error("At")]
     At { at: u32, line: u32 },
     /// There was no memory.

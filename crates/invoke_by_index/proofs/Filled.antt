@@ -12,8 +12,8 @@ use Rattle.call_model.specs.declared.places.Conv.TheVariants.{SysV64, I386, Aapc
 use Rattle.call_model.specs.declared.places.Loc.{Loc}
 use Rattle.call_model.specs.declared.places.Loc.TheVariants.{Gpr, Fpr, Stack}
 use Rattle.call_model.specs.Placement.{place, space_of, stack_len_of, type_at, gprs_of, fprs_of, IsWithin, PlacesWithin}
-use Rattle.call_model.specs.Values.{Argument, FrameView, arguments, gpr_at, fpr_at, byte_at, gpr_of, fpr_of, byte_of, frame_of}
-use Rattle.call_model.proofs.PlacedFrames.{argument, arguments-push}
+use Rattle.call_model.specs.Values.{Argument, FrameView, argument, arguments, gpr_at, fpr_at, byte_at, gpr_of, fpr_of, byte_of, frame_of}
+use Rattle.call_model.proofs.PlacedFrames.{arguments-push}
 use Rattle.object_memory.specs.Frames.{IsPlace, Puts}
 
 -- the frame holds these arguments and zeros, on a stack of this length

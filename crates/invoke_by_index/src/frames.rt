@@ -7,10 +7,11 @@ ghost use Rattle.call_model.specs.Values.{frame_of};
 use call_model::{CType, Convention, space_of};
 use object_memory::Frame;
 
-/// Fills the frame of a call: each pattern stands where the convention passes an argument of its type, and all else is
-/// zero. The stack has the bytes that the arguments need.
+/// Fills the frame of a call: each pattern stands where the convention passes an argument of its
+/// type, and all else is zero. The stack has the bytes that the arguments need.
 ///
-/// `types` are those of the arguments, of which the object's address is the first, and `patterns` their values.
+/// `types` are those of the arguments, of which the object's address is the first, and `patterns`
+/// their values.
 pub fn fill_frame<C: Convention>(frame: &mut Frame, types: &[CType], patterns: &[u64])
     requires few { length types.now ≤ 258 }
     requires paired { length types.now ≡ length patterns.now }

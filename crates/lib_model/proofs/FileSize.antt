@@ -18,7 +18,7 @@ pub length_directory : (lib : Library) → IsValid lib → length (directory_tex
 unfolding directory_text
 length_directory lib valid = length-entries 1 lib.ifaces (λ j d h. (valid.ifaces j d h).iid)
 
-length-header_text : (count pool_len : ℕ) → length (header_text count pool_len) ≡ 32
+pub length-header_text : (count pool_len : ℕ) → length (header_text count pool_len) ≡ 32
 unfolding header_text
 length-header_text count pool_len = simp (length-append, length-four_bytes, length-two_bytes) refl
 

@@ -1,6 +1,6 @@
 -- The table of a library: what its interfaces and methods are to a caller. It is read off the flags
 -- and tags of the XPCOM typelib format.
-use Rattle.std.specs.Prelude.{ℕ, zero, suc, ◌+◌, ◌==◌, ◌&&◌, ◌||◌, not, Bool, false, nat_lt, List, [], ◌∷◌, ◌++◌, length, map, take, drop, Option, Some, None, is_some, if◌then◌else◌}
+use Rattle.std.specs.Prelude.{◌≡◌, ◌<◌, option_map, slice_get, ℕ, zero, suc, ◌+◌, ◌==◌, ◌&&◌, ◌||◌, not, Bool, false, nat_lt, List, [], ◌∷◌, ◌++◌, length, map, take, drop, Option, Some, None, is_some, if◌then◌else◌}
 use Rattle.std.specs.List.{list_any, slice_index_or}
 use Rattle.std.specs.Int.RustNames.{bit_and}
 use Rattle.call_model.specs.declared.ctypes.CType.{CType}
@@ -21,6 +21,7 @@ use Rattle.lib_model.specs.declared.contents.Library.{Library}
 use Rattle.lib_model.specs.declared.contents.Iface.{Iface}
 use Rattle.lib_model.specs.declared.contents.Body.{Body}
 use Rattle.lib_model.specs.declared.contents.Method.{Method}
+use Rattle.lib_model.specs.declared.flags.MethodFlags.{MethodFlags}
 use Rattle.lib_model.specs.declared.param_types.Param.{Param}
 use Rattle.lib_model.specs.declared.param_types.XType.{XType}
 use Rattle.lib_model.specs.declared.param_types.XType.TheVariants as types
@@ -61,11 +62,15 @@ is_string_class tag =
 
 -- ---- members
 
-abbrev pub kind_of : Method → MemberKind
-kind_of m =
-    if has m.flags.bits GETTER.bits then kind.Get
-    else if has m.flags.bits SETTER.bits then kind.Set
+-- what the flags of a method say that its slot is
+abbrev pub kind_of_flags : MethodFlags → MemberKind
+kind_of_flags flags =
+    if has flags.bits GETTER.bits then kind.Get
+    else if has flags.bits SETTER.bits then kind.Set
     else kind.Plain
+
+abbrev pub kind_of : Method → MemberKind
+kind_of m = kind_of_flags m.flags
 
 -- void, which stands for a native type, and jsval
 abbrev pub is_opaque_tag : ℕ → Bool
@@ -170,6 +175,13 @@ unfoldable pub proto_of : Method → List ProtoArg
 proto_of m =
     first_args m ++ (map (arg_of m) (take (written_count m.params) m.params)
     ++ (middle_args m ++ map (arg_of m) (drop (written_count m.params) m.params)))
+
+-- at the position of a parameter stands its argument, and no such position lies past the prototype's
+-- end
+pub record HasPositions (m : Method) : Type 0 where
+  pub argument : (k : ℕ)
+      → slice_get (proto_of m) (position_in m k) ≡ option_map (arg_of m) (slice_get m.params k)
+  pub inside : (k : ℕ) → k < length m.params → position_in m k < length (proto_of m)
 
 -- ---- tables
 

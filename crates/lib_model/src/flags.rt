@@ -1,6 +1,7 @@
 ghost use Rattle.std.specs.Prelude.{⊤, [], ◌∷◌, codes};
 
 use bitflags::{Flag, Flags};
+use call_model::MemberKind;
 
 /// What a typelib says of an interface beside its members. The bits are those of the XPCOM
 /// typelib format.
@@ -96,6 +97,22 @@ impl MethodFlags {
 
     /// All bits that are known.
     pub const KNOWN: u8 = 0x80 | 0x40 | 0x20 | 0x10 | 0x08 | 0x04 | 0x02;
+
+    ghost use Rattle.std.specs.Prelude.{◌≡◌};
+    ghost use Rattle.lib_model.specs.Table.{kind_of_flags};
+
+    /// What the slot of a method with these flags is.
+    pub fn kind(self) -> MemberKind
+        ensures { result ≡ kind_of_flags self }
+    {
+        if self.contains(MethodFlags::GETTER) {
+            MemberKind::Get
+        } else if self.contains(MethodFlags::SETTER) {
+            MemberKind::Set
+        } else {
+            MemberKind::Plain
+        }
+    }
 
     const TABLE: &'static [Flag<MethodFlags>] = &[
         Flag {

@@ -4,12 +4,13 @@
 
 mod contents;
 mod flags;
+pub mod laws;
 mod param_types;
+mod prototypes;
+mod tables;
 pub mod tags;
 
 pub use contents::{Body, Constant, Iface, Library, Method};
 pub use flags::{IfaceFlags, MethodFlags, ParamFlags};
 pub use param_types::{Elem, Param, XType};
-
-/// The greatest number of bytes that a typelib may have.
-pub const LONGEST_TYPELIB: usize = 8_388_608;
+pub use tables::table_of;

@@ -1,6 +1,7 @@
 use crate::flags::ParamFlags;
 use crate::tags;
-use call_model::CType;
+use bitflags::Flags;
+use call_model::{CType, Pass};
 
 /// A parameter of a method.
 #[derive(Clone, Copy, PartialEq, Eq, Debug)]
@@ -9,6 +10,35 @@ pub struct Param {
     pub flags: ParamFlags,
     /// Its type.
     pub ty: XType,
+}
+
+impl Param {
+    ghost use Rattle.std.specs.Prelude.{◌≡◌};
+    ghost use Rattle.lib_model.specs.Table.{gives_value, pass_of};
+
+    /// How the parameter becomes an argument of a call.
+    pub fn pass(&self) -> Pass
+        ensures { result ≡ pass_of self.now }
+    {
+        let tag = self.ty.tag();
+        if tags::is_string_class(tag) {
+            Pass::ByRef
+        } else if self.flags.contains(ParamFlags::OUT) {
+            let inward = self.flags.contains(ParamFlags::IN);
+            Pass::ByCell { inward }
+        } else if tag == tags::NSID {
+            Pass::ByRef
+        } else {
+            Pass::ByValue
+        }
+    }
+
+    /// Whether the parameter gives the value of the written method.
+    pub fn gives_value(&self) -> bool
+        ensures { result ≡ gives_value self.now }
+    {
+        self.flags.contains(ParamFlags::RETVAL)
+    }
 }
 
 /// The type of a parameter, as the XPCOM typelib format has them. The numbers of other parameters
@@ -71,6 +101,17 @@ impl XType {
     {
         tags::c_type(self.tag())
     }
+
+    /// Whether no call can pass a value of the type.
+    pub fn is_opaque(self) -> bool
+        ensures { result ≡ table.is_opaque self }
+    {
+        match self {
+            XType::Plain(tag) => tags::is_opaque(tag),
+            XType::Array { elem, .. } => elem.is_opaque(),
+            _ => false,
+        }
+    }
 }
 
 /// The type of an array's element.
@@ -86,7 +127,7 @@ pub enum Elem {
 
 impl Elem {
     ghost use Rattle.std.specs.Prelude.{◌≡◌};
-    ghost use Rattle.lib_model.specs.Table.{elem_type};
+    ghost use Rattle.lib_model.specs.Table.{elem_type, is_opaque_elem};
     ghost use Rattle.lib_model.specs.Valid.{tag_of_elem};
 
     /// The tag of the type.
@@ -105,5 +146,15 @@ impl Elem {
         ensures { result ≡ elem_type self }
     {
         tags::c_type(self.tag())
+    }
+
+    /// Whether no call can pass an array of such elements.
+    pub fn is_opaque(self) -> bool
+        ensures { result ≡ is_opaque_elem self }
+    {
+        match self {
+            Elem::Plain(tag) => tags::is_opaque(tag) || tags::is_string_class(tag),
+            Elem::Iface(_) | Elem::IidIs(_) => false,
+        }
     }
 }

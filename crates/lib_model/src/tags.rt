@@ -1,7 +1,7 @@
 //! The tags of types in the XPCOM typelib format: the low five bits of a type's byte.
 
 ghost use Rattle.std.specs.Prelude.{◌≡◌};
-ghost use Rattle.lib_model.specs.Table.{type_of_tag};
+ghost use Rattle.lib_model.specs.Table.{is_opaque_tag, is_string_class, type_of_tag};
 
 use call_model::CType;
 
@@ -107,4 +107,18 @@ pub fn c_type(tag: u8) -> CType
         WCHAR => CType::WChar,
         _ => CType::Ptr,
     }
+}
+
+/// Whether the tag is that of a string class.
+pub fn is_string_class(tag: u8) -> bool
+    ensures { result ≡ is_string_class tag }
+{
+    matches!(tag, DOMSTRING | UTF8STRING | CSTRING | ASTRING)
+}
+
+/// Whether the tag is that of a type of which nothing is known, or of a value of a script.
+pub fn is_opaque(tag: u8) -> bool
+    ensures { result ≡ is_opaque_tag tag }
+{
+    matches!(tag, VOID | JSVAL)
 }

@@ -1,6 +1,6 @@
-//! Where the Microsoft x64 convention passes arguments: the first four in rcx, rdx, r8 and r9, or in xmm0 to xmm3 where
-//! they are floats, each by its position, and the others on the stack, 8 bytes each, after a home of 32 bytes that is
-//! always there.
+//! Where the Microsoft x64 convention passes arguments: the first four in rcx, rdx, r8 and r9, or
+//! in xmm0 to xmm3 where they are floats, each by its position, and the others on the stack, 8
+//! bytes each, after a home of 32 bytes that is always there.
 #![tactic(auto)]
 
 ghost use Rattle.std.specs.Prelude.{◌≡◌, length};
@@ -60,48 +60,4 @@ impl Convention for Walk {
     ghost grows = { stack-grows Ms64 };
 
     ghost bounded = { stack-is-bounded Ms64 };
-}
-
-#[cfg(test)]
-mod tests {
-    use super::*;
-    use call_model::passes_at;
-
-    #[test]
-    fn each_register_goes_by_its_position(rt: HostRuntime) {
-        let types = [
-            CType::Ptr,
-            CType::F64,
-            CType::F64,
-            CType::I32,
-            CType::F64,
-            CType::F64,
-            CType::F64,
-            CType::F64,
-            CType::F64,
-            CType::F64,
-            CType::F64,
-        ];
-        let locations = [
-            Loc::Gpr(0),
-            Loc::Fpr(1),
-            Loc::Fpr(2),
-            Loc::Gpr(3),
-            Loc::Stack(32),
-            Loc::Stack(40),
-            Loc::Stack(48),
-            Loc::Stack(56),
-            Loc::Stack(64),
-            Loc::Stack(72),
-            Loc::Stack(80),
-        ];
-        assert!(rt; passes_at::<Walk>(&types, &locations, 88));
-    }
-
-    #[test]
-    fn one_short_has_the_home_area(rt: HostRuntime) {
-        let types = [CType::Ptr, CType::I16];
-        let locations = [Loc::Gpr(0), Loc::Gpr(1)];
-        assert!(rt; passes_at::<Walk>(&types, &locations, 32));
-    }
 }

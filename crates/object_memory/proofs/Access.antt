@@ -8,10 +8,10 @@ use Rattle.raw_block.specs.Bytes.{overwritten}
 use Rattle.call_model.specs.declared.places.Conv.{Conv}
 use Rattle.object_memory.specs.declared.data_block.DataBlock.{DataBlock}
 use Rattle.object_memory.specs.declared.layout.TheConstants.{VTABLE_AT, CELLS_AT}
-use Rattle.object_memory.specs.Numbers.{low_bytes, number_of}
-use Rattle.object_memory.specs.Memory.{MachineView, InMemory, InCells, bytes_at, number_at, written}
+use Rattle.xp_base.specs.LittleEndian.{low_bytes, number_of}
+use Rattle.object_memory.specs.Memory.{MachineView, InMemory, InCells, bytes_at, cell_bytes, with_cells, with_memory, written}
 use Rattle.object_memory.specs.WellFormed.{IsWellFormed}
-use Rattle.object_memory.proofs.Digits.{length-low_bytes}
+use Rattle.xp_base.proofs.LittleEndian.{length-low_bytes}
 use Rattle.object_memory.proofs.Lists.{length-overwritten, take-overwritten, drop-overwritten}
 
 pub both_true : (a b c d : ℕ) → a ≤ b → c ≤ d → (nat_le a b && nat_le c d) ≡ true
@@ -85,35 +85,19 @@ module _ (m : MachineView) (at n : ℕ) (cells : List ℕ) (count : ℕ) (view :
       let low : place + n ≤ count = omega (arith, here.0.0, here.0.1, here.1) in let up : place ≤ place + n = omega arith in
       ap Some (is ∙ sym (slice_range-take cells count place (place + n) up low) ∙ (λ i. slice_range (view i) (here.1 i) (here.1 i + n))) ∙ sym (bytes_at-cells m at n out (in_cells here.0))
 
--- of what was read, the number
-pub numbered : (m : MachineView) (at n num : ℕ) (ys : List ℕ) → num ≡ number_of ys → Some ys ≡ bytes_at m at n → Some num ≡ number_at m at n
-numbered m at n num ys is read = ap Some is ∙ ap (λ r. option_map number_of r) read
-
-module _ (m : MachineView) (at n v : ℕ) where
-  abbrev low : List ℕ
-  low = low_bytes n v
-
-  count : length low ≡ n
-  count = length-low_bytes n v
-
-  pub write_memory : (heap new : List ℕ) (used place : ℕ) → take used heap ≡ m.memory → used ≤ length heap → IsFound VTABLE_AT used at n place → new ≡ overwritten heap place low
-      → record m { memory = take used new } ≡ written m at low
+-- a write of these bytes
+module _ (m : MachineView) (at : ℕ) (bytes : List ℕ) where
+  pub write_memory : (heap new : List ℕ) (used place : ℕ) → take used heap ≡ m.memory → used ≤ length heap → IsFound VTABLE_AT used at (length bytes) place → new ≡ overwritten heap place bytes
+      → record m { memory = take used new } ≡ with_memory m at bytes
   write_memory heap new used place view fits here is =
-      let end : place + length low ≤ used = omega (arith, here.0.0, here.0.1, here.1, count) in let within : place + length low ≤ length heap = omega (arith, end, fits) in
-      let inside : InMemory m at (length low) = subst (λ k. InMemory m at k) (sym count) (in_memory m at n heap used view fits here.0) in
-      ap (λ (l : List ℕ). record m { memory = l }) (ap (λ l. take used l) is ∙ take-overwritten heap place low within used end ∙ (λ i. overwritten (view i) (here.1 i) low)) ∙ sym (written-memory m at low inside)
+      let end : place + length bytes ≤ used = omega (arith, here.0.0, here.0.1, here.1) in let within : place + length bytes ≤ length heap = omega (arith, end, fits) in
+      ap (λ (l : List ℕ). record m { memory = l }) (ap (λ l. take used l) is ∙ take-overwritten heap place bytes within used end ∙ (λ i. overwritten (view i) (here.1 i) bytes))
 
-  pub write_cells : (cells new : List ℕ) (used place : ℕ) → (InMemory m at n → ⊥) → take used cells ≡ m.cells → used ≤ length cells → IsFound CELLS_AT used at n place → new ≡ overwritten cells place low
-      → record m { cells = take used new } ≡ written m at low
-  write_cells cells new used place out view fits here is =
-      let end : place + length low ≤ used = omega (arith, here.0.0, here.0.1, here.1, count) in let within : place + length low ≤ length cells = omega (arith, end, fits) in
-      let inside : InCells m at (length low) = subst (λ k. InCells m at k) (sym count) (in_cells m at n cells used view fits here.0) in
-      let away : InMemory m at (length low) → ⊥ = subst (λ k. InMemory m at k → ⊥) (sym count) out in
-      ap (λ (l : List ℕ). record m { cells = l }) (ap (λ l. take used l) is ∙ take-overwritten cells place low within used end ∙ (λ i. overwritten (view i) (here.1 i) low)) ∙ sym (written-cells m at low away inside)
-
-  pub write_nowhere : (InMemory m at n → ⊥) → (InCells m at n → ⊥) → m ≡ written m at low
-  write_nowhere out off =
-      sym (written-nowhere m at low (subst (λ k. InMemory m at k → ⊥) (sym count) out) (subst (λ k. InCells m at k → ⊥) (sym count) off))
+  pub write_cells : (cells new : List ℕ) (used place : ℕ) → take used cells ≡ m.cells → used ≤ length cells → IsFound CELLS_AT used at (length bytes) place → new ≡ overwritten cells place bytes
+      → record m { cells = take used new } ≡ with_cells m at bytes
+  write_cells cells new used place view fits here is =
+      let end : place + length bytes ≤ used = omega (arith, here.0.0, here.0.1, here.1) in let within : place + length bytes ≤ length cells = omega (arith, end, fits) in
+      ap (λ (l : List ℕ). record m { cells = l }) (ap (λ l. take used l) is ∙ take-overwritten cells place bytes within used end ∙ (λ i. overwritten (view i) (here.1 i) bytes))
 
 zeros_left : (heap new : List ℕ) (used : ℕ) → length new ≡ length heap → replicate {A = ℕ} (length heap - used) 0 ≡ replicate (length new - used) 0
 zeros_left heap new used same = ap (λ k. replicate {A = ℕ} (k - used) 0) (sym same)

@@ -10,12 +10,12 @@ use Rattle.call_model.specs.declared.places.Conv.{Conv}
 use Rattle.call_model.specs.declared.places.Conv.TheVariants.{SysV64, I386, Aapcs64, Ms64, Aapcs32}
 use Rattle.call_model.specs.Placement.{word_of}
 use Rattle.object_memory.specs.declared.layout.TheConstants.{VTABLE_AT, SLOTS}
-use Rattle.object_memory.specs.Numbers.{low_bytes, number_of}
+use Rattle.xp_base.specs.LittleEndian.{low_bytes, number_of}
 use Rattle.object_memory.specs.Layout.{space_for, padded, entry_of, slot_words, vtable}
 use Rattle.object_memory.specs.Memory.{MachineView, InMemory, word_at, entry_at}
 use Rattle.object_memory.specs.Heap.{Content, Data, Object, content_bytes, space_of, blocks_image, heap_at, along, object_shown, Holds}
 use Rattle.object_memory.proofs.Access.{bytes_at-memory}
-use Rattle.object_memory.proofs.Digits.{length-low_bytes, number_of-low_bytes}
+use Rattle.xp_base.proofs.LittleEndian.{length-low_bytes, number_of-low_bytes}
 use Rattle.object_memory.proofs.Growth.{length-padded, length-slot_words}
 use Rattle.object_memory.proofs.Held.{length-vtable}
 

@@ -12,11 +12,11 @@ use Rattle.call_model.specs.Placement.{word_of}
 use Rattle.raw_block.specs.Bytes.{overwritten}
 use Rattle.object_memory.specs.declared.data_block.DataBlock.{DataBlock}
 use Rattle.object_memory.specs.declared.layout.TheConstants.{VTABLE_AT, SLOTS, HEAP_LIMIT, MOST_CELLS}
-use Rattle.object_memory.specs.Numbers.{low_bytes}
+use Rattle.xp_base.specs.LittleEndian.{low_bytes}
 use Rattle.object_memory.specs.Layout.{space_for, padded, entry_of, slot_words, vtable, vtable_space}
 use Rattle.object_memory.specs.WellFormed.{HasSpare, Grown, IsPlaced, EndsBefore, IsWellFormed}
 use Rattle.object_memory.proofs.Lists.{length-overwritten, drop-overwritten, overwritten_next, overwritten_none}
-use Rattle.object_memory.proofs.Digits.{length-low_bytes}
+use Rattle.xp_base.proofs.LittleEndian.{length-low_bytes}
 
 -- ---- the vtable
 slot_words-next : (word n : ℕ) → slot_words word (n + 1) ≡ slot_words word n ++ low_bytes word (entry_of n)

@@ -185,12 +185,19 @@ along-after shown conv at (c ∷ heap) a bytes same =
     (λ i. same at c i ++ along shown conv (at + space_for (same_len conv at c a bytes i)) (blocks_after conv (at + space_of conv c) heap a bytes))
     ∙ ap (λ l. shown at c ++ l) (along-after shown conv (at + space_of conv c) heap a bytes same)
 
+-- what lies in a data block lies in the memory
+pub inside-memory : (m : MachineView) (heap : List Content) (a n : ℕ) → Inside m.blocks a n → Holds m heap → InMemory m a n
+inside-memory m heap a n inside held =
+    let start = heap_at m.conv in
+    let here : InHeap m.conv start heap a n = in_heap m.conv start heap a n (subst (λ l. Any (InBlock a n) l) held.blocks inside.1) in
+    (omega (arith, begins m.conv start heap a n here), omega (arith, ends m.conv start heap a n here, heap_ends m heap held))
+
 pub holds-written : (m : MachineView) (heap : List Content) (a : ℕ) (bytes : List ℕ) → Inside m.blocks a (length bytes) → Holds m heap → Holds (written m a bytes) (heap_after m.conv heap a bytes)
 holds-written m heap a bytes inside held =
     let n = length bytes in let start = heap_at m.conv in
     let here : InHeap m.conv start heap a n = in_heap m.conv start heap a n (subst (λ l. Any (InBlock a n) l) held.blocks inside.1) in
     let low : start ≤ a = begins m.conv start heap a n here in
-    let memory : InMemory m a n = (omega (arith, low), omega (arith, ends m.conv start heap a n here, heap_ends m heap held)) in
+    let memory = inside-memory m heap a n inside held in
     let split : a - VTABLE_AT ≡ length (vtable m.conv) + (a - start) = omega (arith, low, length-vtable m.conv) in
     let bytes_are : overwritten m.memory (a - VTABLE_AT) bytes ≡ image m.conv (heap_after m.conv heap a bytes) = ap (λ l. overwritten l (a - VTABLE_AT) bytes) held.memory
     ∙ overwritten_back (vtable m.conv) (blocks_image m.conv heap) (a - VTABLE_AT) (a - start) bytes split
@@ -235,7 +242,7 @@ holds-bytes m heap a n inside held =
     let start = heap_at m.conv in
     let here : InHeap m.conv start heap a n = in_heap m.conv start heap a n (subst (λ l. Any (InBlock a n) l) held.blocks inside.1) in
     let low : start ≤ a = begins m.conv start heap a n here in
-    let memory : InMemory m a n = (omega (arith, low), omega (arith, ends m.conv start heap a n here, heap_ends m heap held)) in
+    let memory = inside-memory m heap a n inside held in
     let split : a - VTABLE_AT ≡ length (vtable m.conv) + (a - start) = omega (arith, low, length-vtable m.conv) in
     bytes_at-memory m a n memory
     ∙ ap Some (ap (λ l. slice_range l (a - VTABLE_AT) (a - VTABLE_AT + n)) held.memory ∙ slice_back (vtable m.conv) (blocks_image m.conv heap) (a - VTABLE_AT) (a - start) n split)

@@ -1,8 +1,9 @@
 pub mod Access
-pub mod Digits
+pub mod CellNumbers
 pub mod Entries
 pub mod Growth
 pub mod Held
 pub mod Lists
 pub mod Puts
 pub mod Search
+pub mod Stores

@@ -4,12 +4,12 @@ use Rattle.std.specs.Prelude.{nat_le, nat_lt}
 use Rattle.std.proofs.lemmas.List.{get_or-take, get_or-drop, get_or_append_left, get_or-append_right}
 use Rattle.std.proofs.lemmas.Grind.{common_steps}
 use Rattle.raw_block.specs.Bytes.{overwritten}
-use Rattle.call_model.specs.Values.{FrameView, pattern_byte}
-use Rattle.object_memory.specs.Numbers.{low_bytes}
+use Rattle.call_model.specs.Values.{FrameView}
+use Rattle.xp_base.specs.LittleEndian.{low_bytes}
 use Rattle.call_model.specs.declared.places.Loc.TheVariants.{Stack}
 use Rattle.object_memory.specs.Frames.{Puts}
 use Rattle.object_memory.proofs.Lists.{length-overwritten}
-use Rattle.object_memory.proofs.Digits.{length-low_bytes, get_or-low_bytes}
+use Rattle.xp_base.proofs.LittleEndian.{length-low_bytes}
 
 module _ (xs : List ℕ) (at : ℕ) (ys : List ℕ) (within : at + length ys ≤ length xs) where
   front_len : length (take at xs) ≡ at
@@ -38,12 +38,12 @@ by_place b at n x y z before there behind = grind (arith, common_steps, before, 
 
 -- byte b after the n low bytes of v were written
 pub byte_put : (xs : List ℕ) (at n v b : ℕ) → at + n ≤ length xs
-    → get_or (overwritten xs at (low_bytes n v)) b 0 ≡ cond (nat_le at b && nat_lt b (at + n)) (pattern_byte v (b - at)) (get_or xs b 0)
+    → get_or (overwritten xs at (low_bytes n v)) b 0 ≡ cond (nat_le at b && nat_lt b (at + n)) (get_or (low_bytes n v) (b - at) 0) (get_or xs b 0)
 byte_put xs at n v b within =
     let count = length-low_bytes n v in
     let fits : at + length (low_bytes n v) ≤ length xs = omega (arith, within, count) in
     by_place b at n _ _ _ (λ lt. get_or-before xs at (low_bytes n v) fits b lt)
-    (λ le lt. get_or-written xs at (low_bytes n v) fits b le (omega (arith, lt, count)) ∙ get_or-low_bytes n v (b - at) (omega (arith, le, lt)))
+    (λ le lt. get_or-written xs at (low_bytes n v) fits b le (omega (arith, lt, count)))
     (λ le. get_or-behind xs at (low_bytes n v) fits b (omega (arith, le, count)))
 
 -- the low bytes of v were written into a stack of len bytes
@@ -61,7 +61,7 @@ puts_stack gprs fprs bytes len at n v enough within =
       fpr = λ r lt. refl;
       byte = λ b lt. let low : b < len = omega (arith, lt, length-take len bytes) in
           get_or-take len written b 0 low ∙ byte_put bytes at n v b (omega (arith, enough, within))
-          ∙ ap (λ x. cond (nat_le at b && nat_lt b (at + n)) (pattern_byte v (b - at)) x) (sym (get_or-take len bytes b 0 low));
+          ∙ ap (λ x. cond (nat_le at b && nat_lt b (at + n)) (get_or (low_bytes n v) (b - at) 0) x) (sym (get_or-take len bytes b 0 low));
     }
 
 -- the same of a frame that has these registers and bytes

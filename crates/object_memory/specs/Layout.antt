@@ -3,7 +3,7 @@ use Rattle.std.specs.Prelude.{ℕ, zero, suc, ◌+◌, ◌-◌, ◌*◌, ◌/◌
 use Rattle.call_model.specs.declared.places.Conv.{Conv}
 use Rattle.call_model.specs.Placement.{word_of}
 use Rattle.object_memory.specs.declared.layout.TheConstants.{SLOTS}
-use Rattle.object_memory.specs.Numbers.{low_bytes}
+use Rattle.xp_base.specs.LittleEndian.{low_bytes}
 
 -- the space that n bytes occupy: rounded up to 16, and at least 16
 abbrev pub space_for : ℕ → ℕ

@@ -6,7 +6,7 @@ use Rattle.object_memory.specs.contracts.frame.Frame as Frame
 use Rattle.object_memory.specs.contracts.machine.Machine as Machine
 
 abbrev pub with_frame : MachineView → FrameView → MachineView
-with_frame m frame = record { conv = m.conv; memory = m.memory; blocks = m.blocks; objects = m.objects; cells = m.cells; frame = frame }
+with_frame m frame = record m { frame = frame }
 
 abbrev pub lends_frame : MutBor MachineView → MutBor FrameView → Fml
 lends_frame s r = Lends Machine.the_row Frame.the_row s r (with_frame s.now)

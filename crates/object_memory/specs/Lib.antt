@@ -1,7 +1,8 @@
+pub mod Cells
 pub mod Frames
 pub mod Heap
 pub mod Layout
 pub mod Lends
 pub mod Memory
-pub mod Numbers
 pub mod WellFormed
+pub mod Widths

@@ -18,13 +18,21 @@ pub record Grown (old new : List ℕ) (used more : ℕ) : Type 0 where
 
 -- a block lies in the heap, which ends at `end`
 abbrev pub IsPlaced : (start end : ℕ) → DataBlock → Type 0
-IsPlaced start end block = (VTABLE_AT + start ≤ block.address) × (block.address + block.length ≤ VTABLE_AT + end)
+IsPlaced start end block =
+    (VTABLE_AT + start ≤ block.address) × (block.address + block.length ≤ VTABLE_AT + end)
 
 -- a block ends before a later one begins
 abbrev pub EndsBefore : DataBlock → DataBlock → Type 0
 EndsBefore block later = block.address + block.length ≤ later.address
 
-pub record IsWellFormed (conv : Conv) (heap : List ℕ) (used : ℕ) (blocks : List DataBlock) (objects cells : List ℕ) (pushed : ℕ) : Type 0 where
+pub record IsWellFormed
+    (conv : Conv)
+    (heap : List ℕ)
+    (used : ℕ)
+    (blocks : List DataBlock)
+    (objects cells : List ℕ)
+    (pushed : ℕ)
+    : Type 0 where
   pub spare : HasSpare heap used
   pub starts : vtable_space conv ≤ used
   pub limited : used ≤ vtable_space conv + HEAP_LIMIT

@@ -3,7 +3,7 @@ ghost use Rattle.std.specs.Prelude.{◌≡◌, ◌+◌, ◌-◌, ◌*◌, ◌<�
 ghost use Rattle.std.specs.Option.{SomeIff};
 ghost use Rattle.raw_block.specs.Bytes.{overwritten};
 ghost use Rattle.object_memory.specs.Layout;
-ghost use Rattle.object_memory.specs.Numbers.{bytes_of, low_bytes, number_of};
+ghost use Rattle.xp_base.specs.LittleEndian.{low_bytes, number_of};
 ghost use Rattle.object_memory.specs.WellFormed.{EndsBefore, Grown, HasSpare};
 ghost use Rattle.std.specs.List.{AllPairs};
 ghost use Rattle.std.specs.List.Sorted.{IsPartitionPoint};
@@ -11,7 +11,6 @@ ghost use Rattle.std.specs.List.Sorted.{IsPartitionPoint};
 use crate::data_block::DataBlock;
 use crate::errors::HeapError;
 use crate::layout::{HEAP_LIMIT, SLOTS, entry_of, space_for};
-use crate::width::Width;
 use raw_block::Block;
 use std::alloc::Global;
 use xp_base::Memory;
@@ -43,20 +42,25 @@ pub(crate) fn put_low_bytes(block: &mut Block, at: usize, n: usize, v: u64)
     block.copy_in(at, &v.to_le_bytes()[..n]);
 }
 
-/// The number of `width` bytes from `at` on.
-pub(crate) fn number_in(block: &Block, at: usize, width: Width) -> u64
-    requires { at + bytes_of width ≤ length block.now }
-    ensures { result ≡ number_of (slice_range block.now at (at + bytes_of width)) }
+/// The number that at most 8 bytes make.
+pub(crate) fn number_of_bytes(bytes: &[u8]) -> u64
+    requires { length bytes.now ≤ 8 }
+    ensures { result ≡ number_of bytes.now }
 {
-    match width {
-        Width::W1 => u64::from(block.load1(at)),
-        Width::W2 => u64::from(block.load2(at)),
-        Width::W4 => u64::from(block.load4(at)),
-        Width::W8 => block.load8(at),
-    }
+    let mut all = [0; 8];
+    all[..bytes.len()].copy_from_slice(bytes);
+    u64::from_le_bytes(all)
 }
 
-/// The place of the address `at` in `len` bytes that begin at the address `start`, where `n` bytes from it on lie in them.
+/// The number that the `n` low bytes of `v` make.
+pub(crate) fn low_part(v: u64, n: u32) -> u64
+    ensures { result ≡ number_of (low_bytes n v) }
+{
+    if n < 8 { v % (1 << (8 * n)) } else { v }
+}
+
+/// The place of the address `at` in `len` bytes that begin at the address `start`, where `n` bytes
+/// from it on lie in them.
 pub(crate) fn place_in(start: u64, len: usize, at: u64, n: usize) -> Option<usize>
     ensures { SomeIff result ((start ≤ at) × (at + n ≤ start + len)) (at - start) }
 {
@@ -83,8 +87,9 @@ pub(crate) fn vtable(alloc: Global, word: usize) -> Result<Block, Memory>
     Ok(block)
 }
 
-/// Finds space for a block of `n` bytes behind the `used` bytes of the heap, of which the blocks occupy all but the first
-/// `start`. The heap grows by what is in use, so that growing costs in step with the bytes that are added.
+/// Finds space for a block of `n` bytes behind the `used` bytes of the heap, of which the blocks
+/// occupy all but the first `start`. The heap grows by what is in use, so that growing costs in
+/// step with the bytes that are added.
 pub(crate) fn find_space(
     alloc: Global,
     heap: &mut Block,
@@ -94,8 +99,14 @@ pub(crate) fn find_space(
 ) -> Result<usize, HeapError>
     requires spare { HasSpare heap.old used }
     requires small { (start ≤ used) × (used ≤ start + HEAP_LIMIT) × (start ≤ 4096) × (n < 2 ^ 63) }
-    ensures ok { IfOk result (λ space. (space ≡ Layout.space_for n) × (used + space ≤ start + HEAP_LIMIT) × Grown heap.old heap.new used space) }
-    ensures full { (result ≡ Err HeapError.Full) ↔ (HEAP_LIMIT < used - start + Layout.space_for n) }
+    ensures ok { IfOk
+        result
+        (λ space.
+        (space ≡ Layout.space_for n)
+        × (used + space ≤ start + HEAP_LIMIT)
+        × Grown heap.old heap.new used space) }
+    ensures full { (result ≡ Err HeapError.Full)
+        ↔ (HEAP_LIMIT < used - start + Layout.space_for n) }
     ensures err { OnErr result (heap.new ≡ heap.old) }
 {
     let space = space_for(n);
@@ -125,7 +136,9 @@ fn make_room(alloc: Global, heap: &mut Block, used: usize, more: usize) -> Resul
 /// Adds a value at the end of a list.
 pub(crate) fn note<T: Drop>(list: &mut Vec<T>, value: T) -> Result<(), HeapError>
     ensures ok { OnOk result (list.new.items ≡ list.old.items ++ value ∷ []) }
-    ensures err { IfErr result (λ error. (error ≡ HeapError.Memory) × (list.new.items ≡ list.old.items)) }
+    ensures err { IfErr
+        result
+        (λ error. (error ≡ HeapError.Memory) × (list.new.items ≡ list.old.items)) }
 {
     match list.push(value) {
         Ok(()) => Ok(()),

@@ -1,5 +1,6 @@
-//! The machine that calls are made on: a vtable and a heap of data blocks and objects, cells, and the frame of
-//! registers and stack. All its numbers are little-endian, and its bytes lie in raw memory.
+//! The machine that calls are made on: a vtable and a heap of data blocks and objects, cells, and
+//! the frame of registers and stack. All its numbers are little-endian, and its bytes lie in raw
+//! memory.
 #![tactic(auto)]
 
 mod blocks;

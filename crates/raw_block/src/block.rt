@@ -1,5 +1,5 @@
 ghost use Rattle.std.specs.Prelude.{◌≡◌, ◌+◌, ◌≤◌, [], ◌∷◌, length, replicate, slice_index, slice_range, IfOk};
-ghost use Rattle.std.specs.Int.{from_le_bytes, to_le_bytes, w16, w32, w64};
+ghost use Rattle.xp_base.specs.LittleEndian.{low_bytes, number_of};
 ghost use Rattle.raw_block.specs.Bytes.{overwritten};
 
 use crate::run::{Deed, Run, allocate, deallocate};
@@ -10,8 +10,9 @@ use xp_base::Memory;
 /// The most bytes that a block can have.
 const MOST: usize = isize::MAX as usize;
 
-/// A block of bytes in raw memory, which contracts see as the list of its bytes. Its length never changes, and the
-/// memory goes back when the block is dropped. Numbers in it are little-endian and may begin at any place.
+/// A block of bytes in raw memory, which contracts see as the list of its bytes. Its length never
+/// changes, and the memory goes back when the block is dropped. Numbers in it are little-endian
+/// and may begin at any place.
 pub struct Block {
     ptr: *mut u8,
     len: usize,
@@ -27,7 +28,13 @@ impl Model for Block {
 
     ghost view = { λ b. b.run.items };
 
-    ghost invariant = { λ b. (b.run.ptr ≡ b.ptr) × (length b.run.items ≡ b.len) × (b.run.room ≡ 0) × (b.deed.ptr ≡ b.ptr) × (b.deed.len ≡ b.len) × (b.deed.alloc ≡ b.alloc) };
+    ghost invariant = { λ b.
+        (b.run.ptr ≡ b.ptr)
+        × (length b.run.items ≡ b.len)
+        × (b.run.room ≡ 0)
+        × (b.deed.ptr ≡ b.ptr)
+        × (b.deed.len ≡ b.len)
+        × (b.deed.alloc ≡ b.alloc) };
 }
 
 impl Block {
@@ -73,7 +80,7 @@ impl Block {
     /// The number of 2 bytes from `at` on.
     pub fn load2(&self, at: usize) -> u16
         requires { at + 2 ≤ length self.now }
-        ensures { result ≡ from_le_bytes w16 (slice_range self.now at (at + 2)) }
+        ensures { result ≡ number_of (slice_range self.now at (at + 2)) }
     {
         u16::from_le_bytes(*self.bytes(at, 2).first_chunk::<2>().unwrap())
     }
@@ -81,7 +88,7 @@ impl Block {
     /// The number of 4 bytes from `at` on.
     pub fn load4(&self, at: usize) -> u32
         requires { at + 4 ≤ length self.now }
-        ensures { result ≡ from_le_bytes w32 (slice_range self.now at (at + 4)) }
+        ensures { result ≡ number_of (slice_range self.now at (at + 4)) }
     {
         u32::from_le_bytes(*self.bytes(at, 4).first_chunk::<4>().unwrap())
     }
@@ -89,7 +96,7 @@ impl Block {
     /// The number of 8 bytes from `at` on.
     pub fn load8(&self, at: usize) -> u64
         requires { at + 8 ≤ length self.now }
-        ensures { result ≡ from_le_bytes w64 (slice_range self.now at (at + 8)) }
+        ensures { result ≡ number_of (slice_range self.now at (at + 8)) }
     {
         u64::from_le_bytes(*self.bytes(at, 8).first_chunk::<8>().unwrap())
     }
@@ -105,7 +112,7 @@ impl Block {
     /// Writes the 2 bytes of `v` from `at` on, and changes no other byte.
     pub fn store2(&mut self, at: usize, v: u16)
         requires { at + 2 ≤ length self.old }
-        ensures { self.new ≡ overwritten self.old at (to_le_bytes w16 v) }
+        ensures { self.new ≡ overwritten self.old at (low_bytes 2 v) }
     {
         self.copy_in(at, &v.to_le_bytes());
     }
@@ -113,7 +120,7 @@ impl Block {
     /// Writes the 4 bytes of `v` from `at` on, and changes no other byte.
     pub fn store4(&mut self, at: usize, v: u32)
         requires { at + 4 ≤ length self.old }
-        ensures { self.new ≡ overwritten self.old at (to_le_bytes w32 v) }
+        ensures { self.new ≡ overwritten self.old at (low_bytes 4 v) }
     {
         self.copy_in(at, &v.to_le_bytes());
     }
@@ -121,7 +128,7 @@ impl Block {
     /// Writes the 8 bytes of `v` from `at` on, and changes no other byte.
     pub fn store8(&mut self, at: usize, v: u64)
         requires { at + 8 ≤ length self.old }
-        ensures { self.new ≡ overwritten self.old at (to_le_bytes w64 v) }
+        ensures { self.new ≡ overwritten self.old at (low_bytes 8 v) }
     {
         self.copy_in(at, &v.to_le_bytes());
     }

@@ -1,5 +1,6 @@
-//! The one module that follows a pointer. The owners in it take no space: the pointer and the count of bytes are
-//! kept by the block and handed in at each call, and ghost fields say what lies at that pointer.
+//! The one module that follows a pointer. The owners in it take no space: the pointer and the count
+//! of bytes are kept by the block and handed in at each call, and ghost fields say what lies at
+//! that pointer.
 ghost use Rattle.std.specs.Prelude.{◌≡◌, ℕ, ◌+◌, ◌^◌, ◌<◌, List, [], ◌∷◌, ◌++◌, length, IfOk};
 ghost use Rattle.std.specs.Borrow.{sem};
 ghost use base.Fml.{ftrue};
@@ -45,7 +46,15 @@ pub(crate) fn allocate<A: Allocator>(
     len: usize,
 ) -> Result<(*mut u8, Run, Deed<A>), AllocError>
     requires { len < 2 ^ 63 }
-    ensures { IfOk result (λ made. (made.1.ptr ≡ made.0) × (made.1.items ≡ []) × (made.1.room ≡ len) × (made.2.ptr ≡ made.0) × (made.2.len ≡ len) × (made.2.alloc ≡ alloc.now)) }
+    ensures { IfOk
+        result
+        (λ made.
+        (made.1.ptr ≡ made.0)
+        × (made.1.items ≡ [])
+        × (made.1.room ≡ len)
+        × (made.2.ptr ≡ made.0)
+        × (made.2.len ≡ len)
+        × (made.2.alloc ≡ alloc.now)) }
 {
     match alloc.allocate(len, 1) {
         Ok(ptr) => Ok((ptr, Run {}, Deed { mark: PhantomData })),
@@ -55,7 +64,11 @@ pub(crate) fn allocate<A: Allocator>(
 
 /// Gives the block back, whatever lies in it.
 pub(crate) fn deallocate<A: Allocator>(alloc: &A, ptr: *mut u8, len: usize, run: Run, deed: Deed<A>)
-    requires { (run.ptr ≡ ptr) × (length run.items + run.room ≡ len) × (deed.ptr ≡ ptr) × (deed.len ≡ len) × (deed.alloc ≡ alloc.now) }
+    requires { (run.ptr ≡ ptr)
+        × (length run.items + run.room ≡ len)
+        × (deed.ptr ≡ ptr)
+        × (deed.len ≡ len)
+        × (deed.alloc ≡ alloc.now) }
 {
     let Run {} = run;
     let Deed { mark: _ } = deed;
@@ -70,7 +83,9 @@ impl Run {
     /// Writes the first byte of the room, which is then the last of the items.
     pub(crate) fn push(&mut self, ptr: *mut u8, at: usize, byte: u8)
         requires { (ptr ≡ self.old.ptr) × (at ≡ length self.old.items) × (0 < self.old.room) }
-        ensures { (self.new.ptr ≡ self.old.ptr) × (self.new.items ≡ self.old.items ++ byte ∷ []) × (self.new.room + 1 ≡ self.old.room) }
+        ensures { (self.new.ptr ≡ self.old.ptr)
+            × (self.new.items ≡ self.old.items ++ byte ∷ [])
+            × (self.new.room + 1 ≡ self.old.room) }
     {
         unsafe { ptr.add(at).write(byte) }
     }

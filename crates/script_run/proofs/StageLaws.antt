@@ -14,8 +14,8 @@ use Rattle.object_memory.specs.declared.layout.TheConstants.{VTABLE_AT}
 use Rattle.object_memory.specs.Heap.{Object, Holds, along, blocks_image, content_bytes, heap_at, object_shown, space_of}
 use Rattle.object_memory.specs.Layout.{padded, space_for, vtable, vtable_space}
 use Rattle.object_memory.specs.Memory.{MachineView}
-use Rattle.object_memory.specs.Numbers.{low_bytes}
-use Rattle.object_memory.proofs.Digits.{length-low_bytes}
+use Rattle.xp_base.specs.LittleEndian.{low_bytes}
+use Rattle.xp_base.proofs.LittleEndian.{length-low_bytes}
 use Rattle.object_memory.proofs.Growth.{length-padded}
 use Rattle.object_memory.proofs.Held.{length-vtable}
 use Rattle.script_run.specs.declared.stages.NamedObject.{NamedObject}

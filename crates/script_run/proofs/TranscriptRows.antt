@@ -13,7 +13,7 @@ use Rattle.call_scripts.specs.declared.script.ValueWord.TheVariants as values
 use Rattle.lib_model.specs.declared.contents.Library.{Library}
 use Rattle.lib_model.specs.declared.param_types.XType.TheVariants as types
 use Rattle.lib_model.specs.Table.{proto_of, table_of}
-use Rattle.object_memory.specs.Numbers.{low_bytes}
+use Rattle.xp_base.specs.LittleEndian.{low_bytes}
 use Rattle.transcript_text.specs.Texts.{frame_text}
 use Rattle.script_run.specs.Step.{arguments_of, call_of, call_text, member_named, new_object, step}
 use Rattle.script_run.specs.Transcript.{static}

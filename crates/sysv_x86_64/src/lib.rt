@@ -1,24 +1,23 @@
-//! Where the System V ABI for x86-64 passes arguments: integers and pointers in rdi, rsi, rdx, rcx, r8 and r9, floats in
-//! xmm0 to xmm7, and on the stack, 8 bytes each, those that find no register of their class left.
+//! Where the System V ABI for x86-64 passes arguments: integers and pointers in rdi, rsi, rdx,
+//! rcx, r8 and r9, floats in xmm0 to xmm7, and on the stack, 8 bytes each, those that find no
+//! register of their class left.
 #![tactic(auto)]
 
-ghost use Rattle.std.specs.Prelude.{◌≡◌};
+ghost use Rattle.call_model.specs.Walks.{HasCounted};
 ghost use Rattle.call_model.specs.declared.places.Conv.TheVariants.{SysV64};
-ghost use Rattle.call_model.specs.Types.{floats, integers};
 ghost use Rattle.call_model.specs.Laws.{fills-stack, places-apart, places-within, stack-grows, stack-is-bounded};
 
-use call_model::{CType, Conv, Convention, Loc, overflow_bytes, place_by_class};
+use call_model::{CType, ClassWalk, Conv, Convention, Loc};
 
 // rdi, rsi, rdx, rcx, r8, r9
 const GPRS: u8 = 6;
 // xmm0 to xmm7
 const FPRS: u8 = 8;
 
-/// A walk along the arguments of a call under the System V ABI for x86-64. It counts those of either class.
+/// A walk along the arguments of a call under the System V ABI for x86-64.
 #[derive(Debug, Drop)]
 pub struct Walk {
-    integers: u16,
-    floats: u16,
+    counts: ClassWalk<GPRS, FPRS>,
 }
 
 impl Convention for Walk {
@@ -30,27 +29,19 @@ impl Convention for Walk {
 
     const WORD: u32 = 8;
 
-    ghost stands_for = { λ walk types. (walk.integers ≡ integers types) × (walk.floats ≡ floats types) };
+    ghost stands_for = { λ walk types. HasCounted walk.counts types };
 
     fn begin() -> Self {
-        Walk {
-            integers: 0,
-            floats: 0,
-        }
+        let counts = ClassWalk::begin();
+        Walk { counts }
     }
 
     fn next(&mut self, ty: CType) -> Loc {
-        let at = place_by_class(GPRS, FPRS, self.integers, self.floats, ty);
-        if ty.is_float() {
-            self.floats += 1;
-        } else {
-            self.integers += 1;
-        }
-        at
+        self.counts.next(ty)
     }
 
     fn stack_len(&self) -> u32 {
-        overflow_bytes(GPRS, FPRS, self.integers, self.floats)
+        self.counts.stack_len()
     }
 
     ghost apart = { places-apart SysV64 };
@@ -62,66 +53,4 @@ impl Convention for Walk {
     ghost grows = { stack-grows SysV64 };
 
     ghost bounded = { stack-is-bounded SysV64 };
-}
-
-#[cfg(test)]
-mod tests {
-    use super::*;
-    use call_model::passes_at;
-
-    #[test]
-    fn the_last_two_of_seven_longs_stand_on_the_stack(rt: HostRuntime) {
-        let types = [
-            CType::Ptr,
-            CType::I32,
-            CType::I32,
-            CType::I32,
-            CType::I32,
-            CType::I32,
-            CType::I32,
-            CType::I32,
-        ];
-        let locations = [
-            Loc::Gpr(0),
-            Loc::Gpr(1),
-            Loc::Gpr(2),
-            Loc::Gpr(3),
-            Loc::Gpr(4),
-            Loc::Gpr(5),
-            Loc::Stack(0),
-            Loc::Stack(8),
-        ];
-        assert!(rt; passes_at::<Walk>(&types, &locations, 16));
-    }
-
-    #[test]
-    fn the_ninth_of_nine_doubles_stands_on_the_stack(rt: HostRuntime) {
-        let types = [
-            CType::Ptr,
-            CType::F64,
-            CType::F64,
-            CType::I32,
-            CType::F64,
-            CType::F64,
-            CType::F64,
-            CType::F64,
-            CType::F64,
-            CType::F64,
-            CType::F64,
-        ];
-        let locations = [
-            Loc::Gpr(0),
-            Loc::Fpr(0),
-            Loc::Fpr(1),
-            Loc::Gpr(1),
-            Loc::Fpr(2),
-            Loc::Fpr(3),
-            Loc::Fpr(4),
-            Loc::Fpr(5),
-            Loc::Fpr(6),
-            Loc::Fpr(7),
-            Loc::Stack(0),
-        ];
-        assert!(rt; passes_at::<Walk>(&types, &locations, 8));
-    }
 }

@@ -7,7 +7,7 @@ use Rattle.idl_grammar.specs.Grammar.{file}
 use Rattle.idl_grammar.specs.Places as places
 use Rattle.idl_grammar.specs.Terminals.{lexemes_of}
 use Rattle.thin_idl.specs.Faults.{LacksForm}
-use Rattle.thin_idl.specs.ThinFile.{HasTree}
+use Rattle.idl_grammar.specs.Texts.{HasTree}
 use Rattle.thin_idl.specs.ThinReading.{thin_of}
 use Rattle.thin_idl.proofs.TreeLaws.{thin-said}
 

@@ -13,6 +13,3 @@ mod thin_trees;
 pub use compiling::compile_thin;
 pub use thin_error::ThinError;
 pub use thin_interface::{ThinInterface, ThinMethod};
-
-#[cfg(test)]
-mod tests;

@@ -11,12 +11,10 @@ use object_memory::Frame;
 use std::alloc::Global;
 use xp_base::{Bytes, List, Memory, hex_fixed, hex_text};
 
-/// The general registers that take arguments, the float registers that do, and the stack's bytes, each in a line in
-/// hexadecimal: `-` stands for none. The one error is want of memory.
+/// The general registers that take arguments, the float registers that do, and the stack's bytes,
+/// each in a line in hexadecimal: `-` stands for none. The one error is want of memory.
 #[tactic(auto, unfolding(crate::specs::Texts::frame_text))]
 pub fn frame_lines(alloc: Global, conv: Conv, frame: &Frame) -> Result<Bytes, Memory>
-    requires gprs { length frame.now.gprs ≡ 8 }
-    requires fprs { length frame.now.fprs ≡ 8 }
     ensures { IfOk result (λ text. text ≡ frame_text conv frame.now) }
 {
     let gprs = general_registers(frame);
@@ -32,7 +30,6 @@ pub fn frame_lines(alloc: Global, conv: Conv, frame: &Frame) -> Result<Bytes, Me
 
 /// All general registers of a frame.
 fn general_registers(frame: &Frame) -> [u64; 8]
-    requires { length frame.now.gprs ≡ 8 }
     ensures { result ≡ frame.now.gprs }
 {
     [
@@ -49,7 +46,6 @@ fn general_registers(frame: &Frame) -> [u64; 8]
 
 /// All float registers of a frame.
 fn float_registers(frame: &Frame) -> [u64; 8]
-    requires { length frame.now.fprs ≡ 8 }
     ensures { result ≡ frame.now.fprs }
 {
     [

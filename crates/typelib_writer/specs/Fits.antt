@@ -1,4 +1,5 @@
--- What the writer asks of the parts of a library, so that their numbers fit the fields of the format: each follows from a valid library.
+-- What the writer asks of the parts of a library, so that their numbers fit the fields of the
+-- format: each follows from a valid library.
 use Rattle.std.specs.Prelude.{◌<◌, length, All, IfSome}
 use Rattle.lib_model.specs.declared.contents.Iface.{Iface}
 use Rattle.lib_model.specs.declared.contents.Body.{Body}

@@ -4,7 +4,7 @@ ghost use Rattle.lib_model.specs.Valid.{IsInRange};
 
 use crate::names::size_of_name;
 use crate::numbers::{put_u16, put_u32};
-use lib_model::Constant;
+use lib_model::{Constant, tags};
 use xp_base::{Bytes, ConstKind, Memory};
 
 /// The tag of a constant's type.
@@ -12,10 +12,10 @@ fn tag_of_kind(kind: ConstKind) -> u8
     ensures { result ≡ kind_tag kind }
 {
     match kind {
-        ConstKind::I16 => 1,
-        ConstKind::I32 => 2,
-        ConstKind::U16 => 5,
-        ConstKind::U32 => 6,
+        ConstKind::I16 => tags::INT16,
+        ConstKind::I32 => tags::INT32,
+        ConstKind::U16 => tags::UINT16,
+        ConstKind::U32 => tags::UINT32,
     }
 }
 
@@ -51,7 +51,8 @@ pub(crate) fn put_constants(
 ) -> Result<(), Memory>
     requires fit { All (λ c. IsInRange c.kind c.value) constants.now }
     requires names_fit { names + sum_by constant_size constants.now < 2 ^ 32 }
-    ensures { OnOk result (out.new ≡ out.old ++ placed constant_text constant_size names constants.now) }
+    ensures { OnOk result (out.new
+        ≡ out.old ++ placed constant_text constant_size names constants.now) }
 {
     let mut offset = names;
     for constant in constants {

@@ -4,7 +4,7 @@ use xp_base::Memory;
 /// Why no typelib was written.
 #[derive(Debug, Drop, Error)]
 pub enum WriteError {
-    /// The library's typelib has more than `LONGEST_TYPELIB` bytes.
+    /// The library's typelib has more than `MAX_TYPELIB` bytes.
     #[error("TooLong")]
     TooLong,
     /// There was not enough memory.

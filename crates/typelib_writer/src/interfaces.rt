@@ -1,16 +1,16 @@
 ghost use Rattle.std.specs.Prelude.{◌≡◌, ◌≤◌, ◌<◌, ◌+◌, ◌^◌, ◌++◌, All, IfOk, IfSome, IsErrOf, OnOk, length, sum_by};
-ghost use Rattle.lib_model.specs.Emit.{body_names, body_text, constant_size, descriptor_text, directory_text, entry_text, four_bytes, member_names, method_size, namespace_text, offset_if, part_text, pool_text};
+ghost use Rattle.lib_model.specs.Emit.{body_names, body_text, constant_size, descriptor_text, directory_text, entry_text, member_names, method_size, namespace_text, offset_if, part_text, pool_text};
 ghost use Rattle.typelib_writer.specs.Fits.{BodyFits, IfaceFits};
-ghost use Rattle.typelib_writer.specs.Offsets.{AreOffsets};
+ghost use Rattle.typelib_writer.specs.Offsets.{AreOffsets, offset_fields};
 
 use crate::constants::put_constants;
 use crate::errors::WriteError;
 use crate::methods::put_methods;
 use crate::names::{put_constant_names, put_method_names, put_name};
 use crate::numbers::{put_u16, put_u32};
-use lib_model::{Body, Iface, LONGEST_TYPELIB};
+use lib_model::{Body, Iface};
 use std::alloc::Global;
-use xp_base::{Bytes, Memory};
+use xp_base::{Bytes, MAX_TYPELIB, Memory};
 
 /// Where the parts of an interface stand in the pool, as offsets counted from 1; 0 is none.
 #[derive(Clone, Copy)]
@@ -27,15 +27,15 @@ pub(crate) struct Parts {
     pub(crate) pool: Bytes,
 }
 
-/// The offset at which the next byte of the pool will stand. A pool that is already longer than a typelib may be has
-/// none.
+/// The offset at which the next byte of the pool will stand. A pool that is already longer than a
+/// typelib may be has none.
 fn next_offset(pool: &Bytes) -> Result<u32, WriteError>
     ensures ok { IfOk result (λ offset. offset ≡ length pool.now + 1) }
-    ensures short { OnOk result (length pool.now ≤ LONGEST_TYPELIB) }
-    ensures too_long { IsErrOf result WriteError.TooLong → LONGEST_TYPELIB < length pool.now }
+    ensures short { OnOk result (length pool.now ≤ MAX_TYPELIB) }
+    ensures too_long { IsErrOf result WriteError.TooLong → MAX_TYPELIB < length pool.now }
 {
     let len = pool.as_slice().len();
-    if len > LONGEST_TYPELIB {
+    if len > MAX_TYPELIB {
         return Err(WriteError::TooLong);
     }
     Ok(len as u32 + 1)
@@ -50,11 +50,13 @@ fn put_member_names(pool: &mut Bytes, body: &Body) -> Result<(), Memory>
     put_constant_names(pool, body.constants.as_slice())
 }
 
-/// Adds the descriptor of an interface, the names of whose members stand in the pool from `names` on.
+/// Adds the descriptor of an interface, the names of whose members stand in the pool from `names`
+/// on.
 #[tactic(auto, unfolding(lib_model::specs::Emit::descriptor_text))]
 fn put_descriptor(pool: &mut Bytes, names: u32, body: &Body) -> Result<(), Memory>
     requires fits { BodyFits body.now }
-    requires names_fit { names + sum_by method_size body.now.methods + sum_by constant_size body.now.constants < 2 ^ 32 }
+    requires names_fit { names + sum_by method_size body.now.methods
+        + sum_by constant_size body.now.constants < 2 ^ 32 }
     ensures { OnOk result (pool.new ≡ pool.old ++ descriptor_text names body.now) }
 {
     put_u16(pool, body.parent)?;
@@ -65,12 +67,15 @@ fn put_descriptor(pool: &mut Bytes, names: u32, body: &Body) -> Result<(), Memor
     pool.append(&[body.flags.bits])
 }
 
-/// Adds the names of the members of an interface and its descriptor. Gives where the descriptor stands.
+/// Adds the names of the members of an interface and its descriptor. Gives where the descriptor
+/// stands.
 fn put_body(pool: &mut Bytes, body: &Body) -> Result<u32, WriteError>
     requires { BodyFits body.now }
-    ensures text { OnOk result (pool.new ≡ pool.old ++ (member_names body.now ++ descriptor_text (length pool.old + 1) body.now)) }
+    ensures text { OnOk result (pool.new
+        ≡ pool.old ++ (member_names body.now ++ descriptor_text (length pool.old + 1) body.now)) }
     ensures place { IfOk result (λ k. k ≡ length pool.old + 1 + length (member_names body.now)) }
-    ensures too_long { IsErrOf result WriteError.TooLong → LONGEST_TYPELIB < length pool.old + length (member_names body.now) }
+    ensures too_long { IsErrOf result WriteError.TooLong
+        → MAX_TYPELIB < length pool.old + length (member_names body.now) }
 {
     let names = next_offset(pool)?;
     put_member_names(pool, body)?;
@@ -83,8 +88,10 @@ fn put_body(pool: &mut Bytes, body: &Body) -> Result<u32, WriteError>
 fn put_optional_body(pool: &mut Bytes, body: &Option<Body>) -> Result<u32, WriteError>
     requires { IfSome body.now BodyFits }
     ensures text { OnOk result (pool.new ≡ pool.old ++ body_text (length pool.old + 1) body.now) }
-    ensures place { IfOk result (λ k. k ≡ offset_if body.now (length pool.old + 1 + length (body_names body.now))) }
-    ensures too_long { IsErrOf result WriteError.TooLong → LONGEST_TYPELIB < length pool.old + length (body_names body.now) }
+    ensures place { IfOk result
+        (λ k. k ≡ offset_if body.now (length pool.old + 1 + length (body_names body.now))) }
+    ensures too_long { IsErrOf result WriteError.TooLong
+        → MAX_TYPELIB < length pool.old + length (body_names body.now) }
 {
     match body {
         Some(body) => put_body(pool, body),
@@ -96,7 +103,7 @@ fn put_optional_body(pool: &mut Bytes, body: &Option<Body>) -> Result<u32, Write
 fn put_namespace(pool: &mut Bytes, namespace: &Option<Bytes>) -> Result<u32, WriteError>
     ensures text { OnOk result (pool.new ≡ pool.old ++ namespace_text namespace.now) }
     ensures place { IfOk result (λ k. k ≡ offset_if namespace.now (length pool.old + 1)) }
-    ensures too_long { IsErrOf result WriteError.TooLong → LONGEST_TYPELIB < length pool.old }
+    ensures too_long { IsErrOf result WriteError.TooLong → MAX_TYPELIB < length pool.old }
 {
     match namespace {
         Some(name) => {
@@ -113,7 +120,8 @@ fn put_part(pool: &mut Bytes, iface: &Iface) -> Result<Offsets, WriteError>
     requires { IfaceFits iface.now }
     ensures text { OnOk result (pool.new ≡ pool.old ++ part_text (length pool.old + 1) iface.now) }
     ensures places { IfOk result (AreOffsets (length pool.old + 1) iface.now) }
-    ensures too_long { IsErrOf result WriteError.TooLong → LONGEST_TYPELIB < length pool.old + length (part_text (length pool.old + 1) iface.now) }
+    ensures too_long { IsErrOf result WriteError.TooLong
+        → MAX_TYPELIB < length pool.old + length (part_text (length pool.old + 1) iface.now) }
 {
     let name = next_offset(pool)?;
     put_name(pool, &iface.name)?;
@@ -128,7 +136,8 @@ fn put_part(pool: &mut Bytes, iface: &Iface) -> Result<Offsets, WriteError>
 
 /// Adds an entry to the directory.
 fn put_entry(directory: &mut Bytes, iid: &[u8; 16], offsets: &Offsets) -> Result<(), Memory>
-    ensures { OnOk result (directory.new ≡ directory.old ++ (iid.now ++ (four_bytes offsets.now.name ++ (four_bytes offsets.now.namespace ++ four_bytes offsets.now.descriptor)))) }
+    ensures { OnOk result (directory.new
+        ≡ directory.old ++ (iid.now ++ offset_fields offsets.now)) }
 {
     directory.append(iid)?;
     put_u32(directory, offsets.name)?;
@@ -142,7 +151,8 @@ pub(crate) fn put_interfaces(alloc: Global, ifaces: &[Iface]) -> Result<Parts, W
     requires { All IfaceFits ifaces.now }
     ensures directory { IfOk result (λ parts. parts.directory ≡ directory_text ifaces.now) }
     ensures pool { IfOk result (λ parts. parts.pool ≡ pool_text ifaces.now) }
-    ensures too_long { IsErrOf result WriteError.TooLong → LONGEST_TYPELIB < length (pool_text ifaces.now) }
+    ensures too_long { IsErrOf result WriteError.TooLong
+        → MAX_TYPELIB < length (pool_text ifaces.now) }
 {
     let mut directory = Bytes::new(alloc);
     let mut pool = Bytes::new(alloc);

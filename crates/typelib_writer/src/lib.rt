@@ -1,4 +1,5 @@
-//! Writes a library as a typelib, the binary format by which XPCOM tells what interfaces consist of.
+//! Writes a library as a typelib, the binary format by which XPCOM tells what interfaces consist
+//! of.
 #![tactic(auto)]
 
 mod constants;

@@ -1,38 +1,35 @@
-ghost use Rattle.std.specs.Prelude.{◌≡◌, ◌<◌, ◌++◌, All, OnOk};
+ghost use Rattle.std.specs.Prelude.{◌≡◌, ◌<◌, ◌∷◌, ◌++◌, All, OnOk};
 ghost use Rattle.std.specs.List.{flat_map};
-ghost use Rattle.lib_model.specs.Emit.{elem_text, param_text, tag_byte, type_text};
+ghost use Rattle.lib_model.specs.Emit.{elem_text, param_text, tag_byte, two_bytes, type_text};
+ghost use Rattle.lib_model.specs.declared.tags.TheConstants as tags;
 ghost use Rattle.typelib_writer.specs.Fits.{ElemFits, TypeFits};
 
 use crate::numbers::put_u16;
-use lib_model::{Elem, Param, XType};
+use lib_model::{Elem, Param, XType, tags};
 use xp_base::{Bytes, Memory};
-
-/// The last tag of a type that is no pointer.
-const LAST_PLAIN_VALUE: u8 = 12;
 
 /// The bit of a type's byte that says that it is a pointer.
 const POINTER: u8 = 0x80;
 
-const IFACE: u8 = 18;
-
-const IID_IS: u8 = 19;
-
-const ARRAY: u8 = 20;
-
-const SIZED_STRING: u8 = 21;
-
-const SIZED_WSTRING: u8 = 22;
-
-/// The byte of a type with this tag.
+/// The byte of a type with this tag. The tags of numbers, truth values and characters come first,
+/// all others are those of pointers.
 fn byte_of_tag(tag: u8) -> u8
     requires { tag < 128 }
     ensures { result ≡ tag_byte tag }
 {
-    if tag <= LAST_PLAIN_VALUE {
+    if tag <= tags::WCHAR {
         tag
     } else {
         tag + POINTER
     }
+}
+
+/// Adds the type that is the interface of this number.
+fn put_interface(out: &mut Bytes, number: u16) -> Result<(), Memory>
+    ensures { OnOk result (out.new ≡ out.old ++ tag_byte tags.INTERFACE ∷ two_bytes number) }
+{
+    out.append(&[byte_of_tag(tags::INTERFACE)])?;
+    put_u16(out, number)
 }
 
 /// Adds the type of an array's element.
@@ -43,11 +40,8 @@ fn put_elem(out: &mut Bytes, elem: Elem) -> Result<(), Memory>
 {
     match elem {
         Elem::Plain(tag) => out.append(&[byte_of_tag(tag)]),
-        Elem::Iface(number) => {
-            out.append(&[byte_of_tag(IFACE)])?;
-            put_u16(out, number)
-        }
-        Elem::IidIs(param) => out.append(&[byte_of_tag(IID_IS), param]),
+        Elem::Iface(number) => put_interface(out, number),
+        Elem::IidIs(param) => out.append(&[byte_of_tag(tags::INTERFACE_IS), param]),
     }
 }
 
@@ -59,17 +53,22 @@ fn put_type(out: &mut Bytes, ty: XType) -> Result<(), Memory>
 {
     match ty {
         XType::Plain(tag) => out.append(&[byte_of_tag(tag)]),
-        XType::Iface(number) => {
-            out.append(&[byte_of_tag(IFACE)])?;
-            put_u16(out, number)
-        }
-        XType::IidIs(param) => out.append(&[byte_of_tag(IID_IS), param]),
+        XType::Iface(number) => put_interface(out, number),
+        XType::IidIs(param) => out.append(&[byte_of_tag(tags::INTERFACE_IS), param]),
         XType::Array { size, len, elem } => {
-            out.append(&[byte_of_tag(ARRAY), size, len])?;
+            out.append(&[byte_of_tag(tags::ARRAY), size, len])?;
             put_elem(out, elem)
         }
-        XType::SizedString { size, len } => out.append(&[byte_of_tag(SIZED_STRING), size, len]),
-        XType::SizedWString { size, len } => out.append(&[byte_of_tag(SIZED_WSTRING), size, len]),
+        XType::SizedString { size, len } => out.append(&[
+            byte_of_tag(tags::SIZED_STRING),
+            size,
+            len,
+        ]),
+        XType::SizedWString { size, len } => out.append(&[
+            byte_of_tag(tags::SIZED_WSTRING),
+            size,
+            len,
+        ]),
     }
 }
 

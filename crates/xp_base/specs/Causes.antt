@@ -7,18 +7,20 @@ use Rattle.xp_base.specs.declared.sinks.SinkError.TheVariants as sink
 use Rattle.xp_base.specs.declared.run_faults.RunFault.{RunFault}
 use Rattle.xp_base.specs.declared.run_faults.RunFault.TheVariants as fault
 
--- A count of faults rose in a call: it is greater after the call than before, or it stands at the end of its type,
--- where it stays.
+-- A count of faults rose in a call: it is greater after the call than before, or it stands at the
+-- end of its type, where it stays.
 abbrev pub Rose : (before after : ℕ) → Type 0
 Rose before after = (before < after) ⊎ (after ≡ 2 ^ 64 - 1)
 
--- A source's call answers `Failed` only where its count of faults rose; on every other answer the count is as before.
+-- A source's call answers `Failed` only where its count of faults rose; on every other answer the
+-- count is as before.
 abbrev pub SourceCause : {T : Type 0} → (before after : ℕ) → Result T SourceError → Type 0
 SourceCause before after (Ok _) = after ≡ before
 SourceCause before after (Err source.Failed) = Rose before after
 SourceCause before after (Err source.Memory) = after ≡ before
 
--- A sink's call answers `Failed` only where its count of faults rose; on every other answer the count is as before.
+-- A sink's call answers `Failed` only where its count of faults rose; on every other answer the
+-- count is as before.
 abbrev pub SinkCause : {T : Type 0} → (before after : ℕ) → Result T SinkError → Type 0
 SinkCause before after (Ok _) = after ≡ before
 SinkCause before after (Err sink.Failed) = Rose before after

@@ -25,7 +25,9 @@ IsDecimal text = IsNatural 10 20 (without_minus text)
 
 -- the number that an optional `-` and decimal digits write
 abbrev pub decimal_value : List ℕ → ℤ
-decimal_value text = if starts_with_minus text then neg_ℤ (pos (digits_value 10 (drop 1 text))) else pos (digits_value 10 text)
+decimal_value text =
+    if starts_with_minus text then neg_ℤ (pos (digits_value 10 (drop 1 text)))
+    else pos (digits_value 10 text)
 
 -- a natural number in lower-case hexadecimal digits with no leading zero; zero is `0`
 abbrev pub hex_digits : ℕ → List ℕ

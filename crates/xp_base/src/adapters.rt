@@ -15,8 +15,8 @@ const READ_SIZE: usize = 16_384;
 
 /// The files of a file system, under the names that the system knows them by.
 ///
-/// A file that is not found is missing. A name that is not UTF-8, a file that can't be opened and a read that fails
-/// are failures. What the files hold no contract can say: the source tells nothing.
+/// A file that is not found is missing. A name that is not UTF-8, a file that can't be opened and a
+/// read that fails are failures. What the files hold no contract can say: the source tells nothing.
 #[derive(Drop)]
 pub struct FileSource<'a, R: Files> {
     rt: &'a R,
@@ -66,7 +66,8 @@ fn read_file<R: Files>(
 /// What `file` has left, up to `most` bytes of it.
 fn read_at_most<F: Read>(alloc: Global, file: &mut F, most: usize) -> Result<Bytes, SourceError>
     ensures within { IfOk result (λ bytes. length bytes ≤ most) }
-    ensures content { (left : List ℕ) → F.remaining file.old ≡ Some left → IfOk result (λ bytes. bytes ≡ take most left) }
+    ensures content { (left : List ℕ) → F.remaining file.old ≡ Some left
+        → IfOk result (λ bytes. bytes ≡ take most left) }
 {
     let mut bytes = Bytes::new(alloc);
     let mut room = most;
@@ -85,8 +86,9 @@ fn read_at_most<F: Read>(alloc: Global, file: &mut F, most: usize) -> Result<Byt
     Ok(bytes)
 }
 
-/// A stream of the system, as a sink. A write that fails is a failure, and so is one that takes nothing of a piece
-/// that is not empty. What reached the stream no contract can say: the sink tells nothing.
+/// A stream of the system, as a sink. A write that fails is a failure, and so is one that takes
+/// nothing of a piece that is not empty. What reached the stream no contract can say: the sink
+/// tells nothing.
 #[derive(Drop)]
 pub struct StreamSink<W> {
     writer: W,

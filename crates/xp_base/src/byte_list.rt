@@ -36,7 +36,8 @@ impl Bytes {
         Ok(Bytes { bytes })
     }
 
-    /// Adds the bytes of `piece` at the end. The one error is want of memory, which leaves the list as it was.
+    /// Adds the bytes of `piece` at the end. The one error is want of memory, which leaves the list
+    /// as it was.
     pub fn append(&mut self, piece: &[u8]) -> Result<(), Memory>
         ensures ok { OnOk result (self.new ≡ self.old ++ piece.now) }
         ensures err { OnErr result (self.new ≡ self.old) }

@@ -1,5 +1,6 @@
-//! What every crate of xpcall stands on: lists that contracts see as lists, the one answer for want of memory,
-//! and the traits by which files are fetched and texts are written, with their memory objects and adapters.
+//! What every crate of xpcall stands on: lists that contracts see as lists, the one answer for want
+//! of memory, and the traits by which files are fetched and texts are written, with their memory
+//! objects and adapters.
 #![tactic(auto)]
 
 mod adapters;
@@ -14,8 +15,6 @@ mod numbers;
 mod run_faults;
 mod sinks;
 mod sources;
-#[cfg(test)]
-mod tests;
 mod value_list;
 
 pub use adapters::{FileSource, StderrSink, StdoutSink, StreamSink};

@@ -1,7 +1,7 @@
-ghost use Rattle.std.specs.Prelude.{◌≡◌, ◌≤◌, ◌<◌, ◌==◌, [], ◌↔◌, if◌then◌else◌, length, take, min, Contains, IfOk, IsErrOf, OnErr, Some};
+ghost use Rattle.std.specs.Prelude.{◌≡◌, ◌≤◌, ◌<◌, [], ◌↔◌, length, min, IfOk, IsErrOf, OnErr, Some};
 ghost use Rattle.xp_base.specs.Causes.{SinkCause};
-ghost use Rattle.xp_base.specs.Written.{Gained, GainedNothing};
-ghost use Rattle.xp_base.specs.MemoryObjects.{raised};
+ghost use Rattle.xp_base.specs.Written.{GainedFirst, GainedNothing};
+ghost use Rattle.xp_base.specs.MemoryObjects.{PutFails, calls_with, raised};
 
 use crate::byte_list::Bytes;
 use crate::sinks::{Sink, SinkError};
@@ -50,7 +50,7 @@ impl Sink for CalmSink {
     fn put(&mut self, piece: &[u8]) -> Result<usize, SinkError>
         ensures within { IfOk result (λ n. n ≤ length piece.now) }
         ensures progress { IfOk result (λ n. 0 < length piece.now → 0 < n) }
-        ensures gained { IfOk result (λ n. Gained (Some self.old) (Some self.new) (take n piece.now)) }
+        ensures gained { IfOk result (GainedFirst (Some self.old) (Some self.new) piece.now) }
         ensures err { OnErr result (GainedNothing (Some self.old) (Some self.new)) }
         ensures cause { SinkCause 0 0 result }
         ensures never_falls { 0 ≤ 0 }
@@ -78,17 +78,24 @@ impl Model for MemSink {
 
     ghost Value = { ScriptedText };
 
-    ghost view = { λ s. record { written = s.text; width = s.width; fails = s.fails; calls = s.calls; faults = s.faults } };
+    ghost view = { λ s. record {
+      written = s.text;
+      width = s.width;
+      fails = s.fails;
+      calls = s.calls;
+      faults = s.faults;
+    } };
 
     ghost invariant = { λ s. 0 < s.width };
 }
 
 impl MemSink {
-    /// A sink with no text, which takes at most `width` bytes a put. The puts of a piece that is not empty whose
-    /// numbers, counted from 1, are in `fails` will fail. It takes no memory.
+    /// A sink with no text, which takes at most `width` bytes a put. The puts of a piece that is
+    /// not empty whose numbers, counted from 1, are in `fails` will fail. It takes no memory.
     pub fn new(alloc: Global, width: usize, fails: List<u64>) -> MemSink
         requires { 1 ≤ width }
-        ensures { result ≡ record { written = []; width = width; fails = fails; calls = 0; faults = 0 } }
+        ensures { result
+            ≡ record { written = []; width = width; fails = fails; calls = 0; faults = 0 } }
     {
         MemSink {
             text: Bytes::new(alloc),
@@ -115,16 +122,19 @@ impl Sink for MemSink {
     fn put(&mut self, piece: &[u8]) -> Result<usize, SinkError>
         ensures within { IfOk result (λ n. n ≤ length piece.now) }
         ensures progress { IfOk result (λ n. 0 < length piece.now → 0 < n) }
-        ensures gained { IfOk result (λ n. Gained (Some self.old.written) (Some self.new.written) (take n piece.now)) }
+        ensures gained { IfOk result
+            (GainedFirst (Some self.old.written) (Some self.new.written) piece.now) }
         ensures err { OnErr result (GainedNothing (Some self.old.written) (Some self.new.written)) }
         ensures cause { SinkCause self.old.faults self.new.faults result }
         ensures never_falls { self.old.faults ≤ self.new.faults }
 
         ensures width { IfOk result (λ n. n ≡ min (length piece.now) self.old.width) }
-        ensures same_script { (self.new.fails ≡ self.old.fails) × (self.new.width ≡ self.old.width) }
-        ensures counted { self.new.calls ≡ (if length piece.now == 0 then self.old.calls else raised self.old.calls) }
-        ensures failed { IsErrOf result SinkError.Failed ↔ (0 < length piece.now) × Contains self.old.fails (raised self.old.calls) }
-        ensures raised { IsErrOf result SinkError.Failed → self.new.faults ≡ raised self.old.faults }
+        ensures same_fails { self.new.fails ≡ self.old.fails }
+        ensures same_width { self.new.width ≡ self.old.width }
+        ensures counted { self.new.calls ≡ calls_with self.old.calls piece.now }
+        ensures failed { IsErrOf result SinkError.Failed ↔ PutFails self.old piece.now }
+        ensures raised { IsErrOf result SinkError.Failed
+            → self.new.faults ≡ raised self.old.faults }
     {
         if piece.is_empty() {
             return Ok(0);

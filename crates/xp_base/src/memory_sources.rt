@@ -1,9 +1,9 @@
-ghost use Rattle.std.specs.Prelude.{ℕ, ◌≡◌, ◌≤◌, ◌+◌, [], ◌∷◌, ◌↔◌, Contains, IfOk, IsErrOf, OnErr, OnOk, Some};
+ghost use Rattle.std.specs.Prelude.{◌≡◌, ◌≤◌, [], ◌↔◌, Contains, IsErrOf, OnErr, OnOk, Some};
 ghost use Rattle.std.specs.Option.{option_copied};
 ghost use Rattle.std.specs.Prelude.{find};
 ghost use Rattle.std.specs.Str.{bytes_eq};
 ghost use Rattle.xp_base.specs.Causes.{SourceCause};
-ghost use Rattle.xp_base.specs.Files.{Files, fetched, file_in};
+ghost use Rattle.xp_base.specs.Files.{FetchedFrom, with_file};
 ghost use Rattle.xp_base.specs.MemoryObjects.{raised};
 
 use crate::byte_list::Bytes;
@@ -43,7 +43,7 @@ impl CalmSource {
 
     /// Sets the file `name`. The one error is want of memory, which leaves the files as they were.
     pub fn add(&mut self, name: &[u8], bytes: &[u8]) -> Result<(), Memory>
-        ensures ok { OnOk result (self.new ≡ record { name = name.now; bytes = bytes.now } ∷ self.old) }
+        ensures ok { OnOk result (self.new ≡ with_file self.old name.now bytes.now) }
         ensures err { OnErr result (self.new ≡ self.old) }
     {
         let file = NamedFile {
@@ -77,7 +77,8 @@ impl Source for CalmSource {
     }
 }
 
-/// Files in memory, some fetches of which fail: a source that tells its files and fails where it was told to.
+/// Files in memory, some fetches of which fail: a source that tells its files and fails where it
+/// was told to.
 #[derive(Debug, Drop)]
 pub struct MemSource {
     files: CalmSource,
@@ -91,11 +92,17 @@ impl Model for MemSource {
 
     ghost Value = { ScriptedFiles };
 
-    ghost view = { λ s. record { files = s.files; fails = s.fails; calls = s.calls; faults = s.faults } };
+    ghost view = { λ s. record {
+      files = s.files;
+      fails = s.fails;
+      calls = s.calls;
+      faults = s.faults;
+    } };
 }
 
 impl MemSource {
-    /// A source with no files; the fetches whose numbers, counted from 1, are in `fails` will fail. It takes no memory.
+    /// A source with no files; the fetches whose numbers, counted from 1, are in `fails` will fail.
+    /// It takes no memory.
     pub fn new(alloc: Global, fails: List<u64>) -> MemSource
         ensures { result ≡ record { files = []; fails = fails; calls = 0; faults = 0 } }
     {
@@ -109,7 +116,8 @@ impl MemSource {
 
     /// Sets the file `name`. The one error is want of memory, which leaves the source as it was.
     pub fn add(&mut self, name: &[u8], bytes: &[u8]) -> Result<(), Memory>
-        ensures ok { OnOk result (self.new ≡ record self.old { files = record { name = name.now; bytes = bytes.now } ∷ self.old.files }) }
+        ensures ok { OnOk result
+            (self.new ≡ record self.old { files = with_file self.old.files name.now bytes.now }) }
         ensures err { OnErr result (self.new ≡ self.old) }
     {
         self.files.add(name, bytes)
@@ -123,15 +131,17 @@ impl Source for MemSource {
 
     fn fetch(&mut self, alloc: Global, name: &[u8], limit: usize) -> Result<Fetched, SourceError>
         requires { limit ≤ MAX_TYPELIB }
-        ensures content { (told : Files) → Some self.old.files ≡ Some told → IfOk result (λ found. found ≡ fetched (file_in told name.now) limit) }
+        ensures content { FetchedFrom (Some self.old.files) name.now limit result }
         ensures same_files { Some self.new.files ≡ Some self.old.files }
         ensures cause { SourceCause self.old.faults self.new.faults result }
         ensures never_falls { self.old.faults ≤ self.new.faults }
 
         ensures counted { self.new.calls ≡ raised self.old.calls }
         ensures same_script { self.new.fails ≡ self.old.fails }
-        ensures failed { IsErrOf result SourceError.Failed ↔ Contains self.old.fails (raised self.old.calls) }
-        ensures raised { IsErrOf result SourceError.Failed → self.new.faults ≡ raised self.old.faults }
+        ensures failed { IsErrOf result SourceError.Failed
+            ↔ Contains self.old.fails (raised self.old.calls) }
+        ensures raised { IsErrOf result SourceError.Failed
+            → self.new.faults ≡ raised self.old.faults }
     {
         self.calls = self.calls.saturating_add(1);
         if self.fails.as_slice().contains(&self.calls) {

@@ -6,7 +6,8 @@ use crate::byte_list::Bytes;
 use crate::errors::Memory;
 use std::alloc::Global;
 
-/// The number that 1 to 16 hexadecimal digits of either case write. None exactly for every other text.
+/// The number that 1 to 16 hexadecimal digits of either case write. None exactly for every other
+/// text.
 pub fn hex_read(text: &[u8]) -> Option<u64>
     ensures { SomeIff result (IsHex text.now) (hex_value text.now) }
 {
@@ -14,7 +15,8 @@ pub fn hex_read(text: &[u8]) -> Option<u64>
     Some(value as u64)
 }
 
-/// The number that an optional `-` and 1 to 20 decimal digits write. None exactly for every other text.
+/// The number that an optional `-` and 1 to 20 decimal digits write. None exactly for every other
+/// text.
 pub fn dec_read(text: &[u8]) -> Option<i128>
     ensures { SomeIff result (IsDecimal text.now) (decimal_value text.now) }
 {
@@ -29,7 +31,9 @@ fn natural(text: &[u8], radix: u32, longest: usize) -> Option<u128>
     requires least { 2 ≤ radix }
     requires most { radix ≤ 16 }
     requires short { longest ≤ 20 }
-    ensures value { SomeIff result (IsNatural radix longest text.now) (digits_value radix text.now) }
+    ensures value { SomeIff result
+        (IsNatural radix longest text.now)
+        (digits_value radix text.now) }
     ensures bound { IfSome result (λ n. n < radix ^ longest) }
 {
     if text.is_empty() || longest < text.len() {
@@ -60,68 +64,18 @@ pub fn hex_fixed(alloc: Global, value: u64, digits: usize) -> Result<Bytes, Memo
     Ok(text)
 }
 
-/// `value` in lower-case hexadecimal with no leading zero; zero is `0`. The one error is want of memory.
+/// `value` in lower-case hexadecimal with no leading zero; zero is `0`. The one error is want of
+/// memory.
 pub fn hex_text(alloc: Global, value: u64) -> Result<Bytes, Memory>
     ensures { IfOk result (λ text. text ≡ hex_digits value) }
 {
     Bytes::copy(alloc, format!(in alloc; "{value:x}")?.as_bytes())
 }
 
-/// `value` in decimal: a `-` where it is negative, and no leading zero; zero is `0`. The one error is want of memory.
+/// `value` in decimal: a `-` where it is negative, and no leading zero; zero is `0`. The one error
+/// is want of memory.
 pub fn dec_text(alloc: Global, value: i128) -> Result<Bytes, Memory>
     ensures { IfOk result (λ text. text ≡ decimal_text value) }
 {
     Bytes::copy(alloc, format!(in alloc; "{value}")?.as_bytes())
-}
-
-#[cfg(test)]
-mod tests {
-    use super::*;
-    use std::test::Fail;
-
-    #[test]
-    fn numbers_read(rt: HostRuntime) {
-        for (text, number) in [
-            ("0", Some(0)),
-            ("00fF", Some(255)),
-            ("ffffffffffffffff", Some(u64::MAX)),
-            ("", None),
-            ("00000000000000000", None),
-            ("0x1", None),
-            ("-1", None),
-        ] {
-            assert_eq!(rt; hex_read(text.as_bytes()), number, "at {text}");
-        }
-        for (text, number) in [
-            ("-0", Some(0)),
-            ("0042", Some(42)),
-            ("-99999999999999999999", Some(-99999999999999999999)),
-            ("", None),
-            ("-", None),
-            ("+1", None),
-            ("--1", None),
-            ("1a", None),
-            ("000000000000000000000", None),
-        ] {
-            assert_eq!(rt; dec_read(text.as_bytes()), number, "at {text}");
-        }
-    }
-
-    #[test]
-    fn numbers_written(rt: HostRuntime) -> Result<(), Fail> {
-        let alloc = rt.alloc();
-        assert_eq!(rt; hex_text(alloc, 0)?.as_slice(), b"0".as_slice());
-        assert_eq!(rt; hex_text(alloc, 0x1050)?.as_slice(), b"1050".as_slice());
-        assert_eq!(rt;
-            hex_fixed(alloc, 0x80004001, 8)?.as_slice(),
-            b"80004001".as_slice()
-        );
-        assert_eq!(rt; hex_fixed(alloc, 0xa, 4)?.as_slice(), b"000a".as_slice());
-        assert_eq!(rt;
-            dec_text(alloc, -2147483648)?.as_slice(),
-            b"-2147483648".as_slice()
-        );
-        assert_eq!(rt; dec_text(alloc, 0)?.as_slice(), b"0".as_slice());
-        Ok(())
-    }
 }

@@ -1,6 +1,6 @@
-ghost use Rattle.std.specs.Prelude.{ℕ, ◌≡◌, ◌≤◌, ◌<◌, List, Option, length, take, IfOk, OnErr, OnOk};
+ghost use Rattle.std.specs.Prelude.{ℕ, ◌≡◌, ◌≤◌, ◌<◌, List, Option, length, IfOk, OnErr, OnOk};
 ghost use Rattle.xp_base.specs.Causes.{Rose, SinkCause};
-ghost use Rattle.xp_base.specs.Written.{Gained, GainedNothing, GainedPrefix};
+ghost use Rattle.xp_base.specs.Written.{Gained, GainedFirst, GainedNothing, GainedPrefix};
 ghost use Rattle.xp_base.specs.declared.sinks.SinkError.TheVariants.{Memory as NoMemory};
 
 use crate::errors;
@@ -27,8 +27,8 @@ impl From<errors::Memory> for SinkError {
 
 /// Where bytes are written to.
 ///
-/// A sink may tell what was written to it; a real stream tells nothing. It counts its own faults, which no caller can
-/// raise.
+/// A sink may tell what was written to it; a real stream tells nothing. It counts its own faults,
+/// which no caller can raise.
 pub trait Sink {
     /// The bytes that were written, where the sink tells them.
     ghost written: { Self → Option (List ℕ) };
@@ -36,14 +36,15 @@ pub trait Sink {
     /// How often the sink has failed.
     ghost faults: { Self → ℕ };
 
-    /// Takes some first bytes of `piece` and says how many: at least one, where the piece is not empty.
+    /// Takes some first bytes of `piece` and says how many: at least one, where the piece is not
+    /// empty.
     ///
-    /// `Failed` comes only where the count of faults rose in the call, and `Memory` is free; after either nothing was
-    /// taken.
+    /// `Failed` comes only where the count of faults rose in the call, and `Memory` is free; after
+    /// either nothing was taken.
     fn put(&mut self, piece: &[u8]) -> Result<usize, SinkError>
         ensures within { IfOk result (λ n. n ≤ length piece.now) }
         ensures progress { IfOk result (λ n. 0 < length piece.now → 0 < n) }
-        ensures gained { IfOk result (λ n. Gained (written self.old) (written self.new) (take n piece.now)) }
+        ensures gained { IfOk result (GainedFirst (written self.old) (written self.new) piece.now) }
         ensures err { OnErr result (GainedNothing (written self.old) (written self.new)) }
         ensures cause { SinkCause (faults self.old) (faults self.new) result }
         ensures never_falls { faults self.old ≤ faults self.new };
@@ -51,8 +52,8 @@ pub trait Sink {
 
 /// Puts all of `bytes`, in as many pieces as the sink asks for, and none that is empty.
 ///
-/// `Failed` comes only where the sink's count of faults rose, and `Memory` only from the sink; after either the sink
-/// gained a prefix of the bytes.
+/// `Failed` comes only where the sink's count of faults rose, and `Memory` only from the sink;
+/// after either the sink gained a prefix of the bytes.
 pub fn put_all<O: Sink>(sink: &mut O, bytes: &[u8]) -> Result<(), SinkError>
     ensures ok { OnOk result (Gained (O.written sink.old) (O.written sink.new) bytes.now) }
     ensures err { OnErr result (GainedPrefix (O.written sink.old) (O.written sink.new) bytes.now) }

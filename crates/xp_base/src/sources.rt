@@ -1,6 +1,6 @@
-ghost use Rattle.std.specs.Prelude.{ℕ, ◌≡◌, ◌≤◌, Option, Some, IfOk};
+ghost use Rattle.std.specs.Prelude.{ℕ, ◌≡◌, ◌≤◌, Option};
 ghost use Rattle.xp_base.specs.Causes.{SourceCause};
-ghost use Rattle.xp_base.specs.Files.{Files, fetched, file_in};
+ghost use Rattle.xp_base.specs.Files.{FetchedFrom, Files};
 ghost use Rattle.xp_base.specs.declared.sources.SourceError.TheVariants.{Memory as NoMemory};
 
 use crate::byte_list::Bytes;
@@ -39,8 +39,8 @@ impl From<errors::Memory> for SourceError {
 
 /// Where files come from.
 ///
-/// A source may tell which files it has; a real disk tells nothing. It counts its own faults, which no caller can
-/// raise, so that an answer which blames the source can be held against the count.
+/// A source may tell which files it has; a real disk tells nothing. It counts its own faults, which
+/// no caller can raise, so that an answer which blames the source can be held against the count.
 pub trait Source {
     /// The files, where the source tells them.
     ghost files: { Self → Option Files };
@@ -48,13 +48,14 @@ pub trait Source {
     /// How often the source has failed.
     ghost faults: { Self → ℕ };
 
-    /// The bytes of the file `name`, at most `limit + 1` of them, which is enough to see that a file passes the limit.
+    /// The bytes of the file `name`, at most `limit + 1` of them, which is enough to see that a
+    /// file passes the limit.
     ///
-    /// `Failed` comes only where the count of faults rose in the call, and `Memory` is free; on every answer the files
-    /// are as before.
+    /// `Failed` comes only where the count of faults rose in the call, and `Memory` is free; on
+    /// every answer the files are as before.
     fn fetch(&mut self, alloc: Global, name: &[u8], limit: usize) -> Result<Fetched, SourceError>
         requires { limit ≤ MAX_TYPELIB }
-        ensures content { (told : Files) → files self.old ≡ Some told → IfOk result (λ found. found ≡ fetched (file_in told name.now) limit) }
+        ensures content { FetchedFrom (files self.old) name.now limit result }
         ensures same_files { files self.new ≡ files self.old }
         ensures cause { SourceCause (faults self.old) (faults self.new) result }
         ensures never_falls { faults self.old ≤ faults self.new };

@@ -63,7 +63,8 @@ impl<T> List<T> {
 }
 
 impl<T: Drop> List<T> {
-    /// Adds the value last. The one error is want of memory, which leaves the list as it was; the value is then dropped.
+    /// Adds the value last. The one error is want of memory, which leaves the list as it was; the
+    /// value is then dropped.
     pub fn push(&mut self, value: T) -> Result<(), Memory>
         ensures ok { OnOk result (self.new ≡ self.old ++ value ∷ []) }
         ensures err { OnErr result (self.new ≡ self.old) }

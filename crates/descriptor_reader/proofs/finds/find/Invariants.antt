@@ -3,4 +3,4 @@ use Rattle.descriptor_reader.specs.Views.{entry_after, is_named}
 use Rattle.descriptor_reader.proofs.finds.find.Given as goal
 
 abbrev pub invariant-loop-before : goal.invariant-loop-before
-invariant-loop-before l = (j : ℕ) → j < l.before → is_named l.name (entry_after l.file.bytes.now j) ≡ false
+invariant-loop-before l = (j : ℕ) → j < l.before → is_named l.name (entry_after l.checked.file.bytes.now j) ≡ false

@@ -3,4 +3,4 @@ use Rattle.descriptor_reader.specs.Views.{entry_after, has_iid}
 use Rattle.descriptor_reader.proofs.finds.find_iid.Given as goal
 
 abbrev pub invariant-loop-before : goal.invariant-loop-before
-invariant-loop-before l = (j : ℕ) → j < l.before → has_iid l.iid (entry_after l.file.bytes.now j) ≡ false
+invariant-loop-before l = (j : ℕ) → j < l.before → has_iid l.iid (entry_after l.checked.file.bytes.now j) ≡ false

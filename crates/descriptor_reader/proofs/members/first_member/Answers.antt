@@ -31,8 +31,8 @@ returns-then-has_kind_and_name-clause-fine c =
     let x = c.args.file.now.bytes.now in
     part_fine (method_fault x) (method_next x) c.args.methods.from c.loop-slot.at c.args.methods.count c.loop-slot.slot c.requires (omega arith) c.loop-slot.invariant.reached
 
-pub behind_method-at-requires : goal.behind_method-at-requires
-behind_method-at-requires c =
+pub method_behind-at-requires : goal.method_behind-at-requires
+method_behind-at-requires c =
     let x = c.args.file.now.bytes.now in
     part_fine (method_fault x) (method_next x) c.args.methods.from c.loop-slot.at c.args.methods.count c.loop-slot.slot c.requires (omega arith) c.loop-slot.invariant.reached
 
@@ -43,7 +43,7 @@ loop-slot-preserved c =
     let place = place_reached (method_next x) (method_end x) (λ s. refl) m.from c.loop-slot.slot c.loop-slot.at c.loop-slot.invariant.reached in
     let here : is_wanted c.args.kind c.args.name.now (method_at x (reach (method_end x) m.from.place c.loop-slot.slot)) ≡ false = ap (λ (p : ℕ). is_wanted c.args.kind c.args.name.now (method_at x p)) (sym place) ∙ (sym c.has_kind_and_name.ensures ∙ c.if-has_kind_and_name.false) in
     record {
-      reached = step_more (method_next x) m.from c.loop-slot.at c.behind_method-at.result c.loop-slot.slot c.loop-slot.invariant.reached c.behind_method-at.ensures;
+      reached = step_more (method_next x) m.from c.loop-slot.at c.method_behind-at.result c.loop-slot.slot c.loop-slot.invariant.reached c.method_behind-at.ensures;
       before = below_more (λ (j : ℕ). is_wanted c.args.kind c.args.name.now (method_at x (reach (method_end x) m.from.place j)) ≡ false) c.loop-slot.slot c.loop-slot.invariant.before here;
     }
 

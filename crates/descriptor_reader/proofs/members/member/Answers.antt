@@ -14,14 +14,14 @@ returns-then-at-eq0-clause-slot c = sym (searching_ended c.loop.invariant c.if-a
 
 pub overflow_sub-end : goal.overflow_sub-end
 overflow_sub-end c =
-    let x = c.args.file.now.bytes.now in
+    let x = c.args.checked.now.file.bytes.now in
     let m = c.own_methods-methods in
     let own = own_is x m.result.from.place m.result.count (entries_of x) c.loop.at m.ensures.are in
     omega (arith, searching_split m.result.count c.loop.invariant (omega arith) c.if-at-eq0.false own)
 
 pub returns-in-Some-clause-slot : goal.returns-in-Some-clause-slot
 returns-in-Some-clause-slot c =
-    let x = c.args.file.now.bytes.now in
+    let x = c.args.checked.now.file.bytes.now in
     let m = c.own_methods-methods in
     let own = own_is x m.result.from.place m.result.count (entries_of x) c.loop.at m.ensures.are in
     let first : position (is_wanted c.args.kind c.args.name.now) (methods_in (body_of (entries_of x) c.loop.at)) ≡ Some c.in-Some.found.slot = ap (position (is_wanted c.args.kind c.args.name.now)) (sym m.ensures.are) ∙ sym c.in-Some.ensures.first in
@@ -30,7 +30,7 @@ returns-in-Some-clause-slot c =
 
 pub returns-in-Some-clause-method : goal.returns-in-Some-clause-method
 returns-in-Some-clause-method c =
-    let x = c.args.file.now.bytes.now in
+    let x = c.args.checked.now.file.bytes.now in
     let m = c.own_methods-methods in
     let own = own_is x m.result.from.place m.result.count (entries_of x) c.loop.at m.ensures.are in
     let first : position (is_wanted c.args.kind c.args.name.now) (methods_in (body_of (entries_of x) c.loop.at)) ≡ Some c.in-Some.found.slot = ap (position (is_wanted c.args.kind c.args.name.now)) (sym m.ensures.are) ∙ sym c.in-Some.ensures.first in
@@ -38,11 +38,11 @@ returns-in-Some-clause-method c =
     (searching_found m.result.count c.in-Some.found.slot (method_at x c.in-Some.found.at.place) c.loop.invariant (omega arith) c.if-at-eq0.false own first there).1
 
 pub links-at-requires-clause-fine : goal.links-at-requires-clause-fine
-links-at-requires-clause-fine c = directory_known c.args.file.now.bytes.now c.requires.fine
+links-at-requires-clause-fine c = directory_known c.args.checked.now.file.bytes.now c.args.checked.now.is_fine
 
 pub loop-preserved : goal.loop-preserved
 loop-preserved c =
-    let x = c.args.file.now.bytes.now in
+    let x = c.args.checked.now.file.bytes.now in
     let m = c.own_methods-methods in
     let own = own_is x m.result.from.place m.result.count (entries_of x) c.loop.at m.ensures.are in
     let missing : position (is_wanted c.args.kind c.args.name.now) (methods_in (body_of (entries_of x) c.loop.at)) ≡ None = ap (position (is_wanted c.args.kind c.args.name.now)) (sym m.ensures.are) ∙ sym c.in-None.ensures.first in

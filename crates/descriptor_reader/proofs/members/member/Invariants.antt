@@ -4,4 +4,4 @@ use Rattle.descriptor_reader.proofs.members.member.Given as goal
 
 abbrev pub invariant-loop : goal.invariant-loop
 invariant-loop l =
-    IsSearching l.kind l.name (entries_of l.file.bytes.now) 250 l.fn.number l.file.count l.at l.end l.counter
+    IsSearching l.kind l.name (entries_of l.checked.file.bytes.now) 250 l.fn.number l.checked.file.count l.at l.end l.counter

@@ -5,15 +5,15 @@ use Rattle.typelib_faults.specs.Walk.{reach}
 use Rattle.typelib_faults.proofs.WalkFacts.{part_fine, step_more, value_reached}
 use Rattle.descriptor_reader.proofs.members.method_by_number.Goals as goal
 
-pub behind_method-at-requires : goal.behind_method-at-requires
-behind_method-at-requires c =
+pub method_behind-at-requires : goal.method_behind-at-requires
+method_behind-at-requires c =
     let x = c.args.file.now.bytes.now in
     part_fine (method_fault x) (method_next x) c.args.methods.from c.loop.at c.args.methods.count c.loop.counter c.requires.fine (omega arith) c.loop.invariant
 
 pub loop-preserved : goal.loop-preserved
 loop-preserved c =
     let x = c.args.file.now.bytes.now in
-    step_more (method_next x) c.args.methods.from c.loop.at c.behind_method-at.result c.loop.counter c.loop.invariant c.behind_method-at.ensures
+    step_more (method_next x) c.args.methods.from c.loop.at c.method_behind-at.result c.loop.counter c.loop.invariant c.method_behind-at.ensures
 
 pub returns-clause-method : goal.returns-clause-method
 returns-clause-method c =

@@ -15,8 +15,8 @@ thin_method-requires c =
     let x = c.args.file.now.bytes.now in
     part_fine (method_fault x) (method_next x) c.args.methods.from c.loop.at c.args.methods.count c.loop.counter c.requires (omega arith) c.loop.invariant.reached
 
-pub behind_method-at-requires : goal.behind_method-at-requires
-behind_method-at-requires c =
+pub method_behind-at-requires : goal.method_behind-at-requires
+method_behind-at-requires c =
     let x = c.args.file.now.bytes.now in
     part_fine (method_fault x) (method_next x) c.args.methods.from c.loop.at c.args.methods.count c.loop.counter c.requires (omega arith) c.loop.invariant.reached
 
@@ -33,7 +33,7 @@ loop-preserved c =
     let a = c.args.methods in
     let place = place_reached (method_next x) (method_end x) (λ s. refl) a.from c.loop.counter c.loop.at c.loop.invariant.reached in
     record {
-      reached = step_more (method_next x) a.from c.loop.at c.behind_method-at.result c.loop.counter c.loop.invariant.reached c.behind_method-at.ensures;
+      reached = step_more (method_next x) a.from c.loop.at c.method_behind-at.result c.loop.counter c.loop.invariant.reached c.method_behind-at.ensures;
       thin = below_more (λ (j : ℕ). IsThinMethod (method_at x (reach (method_end x) a.from.place j))) c.loop.counter c.loop.invariant.thin (subst (λ (p : ℕ). IsThinMethod (method_at x p)) place (c.thin_method.ensures.0 c.if-not-thin_method.false));
     }
 

@@ -4,7 +4,7 @@ use Rattle.std.proofs.lemmas.List.{length-replicate}
 use Rattle.raw_block.specs.Bytes.{overwritten}
 use Rattle.object_memory.specs.declared.layout.TheConstants.{SLOTS}
 use Rattle.object_memory.specs.Layout.{space_for}
-use Rattle.object_memory.specs.Numbers.{low_bytes}
+use Rattle.xp_base.specs.LittleEndian.{low_bytes}
 use Rattle.object_memory.proofs.Growth.{no_words, words_next, all_words}
 use Rattle.object_memory.proofs.blocks.vtable.Goals as goal
 

@@ -1,11 +1,7 @@
-use Rattle.std.proofs.Common.{length, arith, sym, ◌∙◌}
-use Rattle.idl_grammar.proofs.FewTokens.{few_tokens}
+use Rattle.std.proofs.Common.{sym, ◌∙◌}
 use Rattle.thin_idl.proofs.Compiled.{has_tree, lacks_form}
 use Rattle.thin_idl.proofs.TreeLaws.{thin-read}
 use Rattle.thin_idl.proofs.compiling.compile_thin.Goals as goal
-
-pub parse-requires : goal.parse-requires
-parse-requires c = omega (arith, few_tokens 0 c.in_ok-tokens.tokens.list (length c.args.bytes.now) c.in_ok-tokens.ensures.in_order)
 
 pub write_thin-requires : goal.write_thin-requires
 write_thin-requires c =

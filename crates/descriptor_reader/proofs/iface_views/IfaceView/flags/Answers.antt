@@ -9,9 +9,9 @@ pub returns-in-Some : goal.returns-in-Some
 returns-in-Some c =
     c.rest_of_descriptor.ensures.flags
     ∙ (ap flags_in c.in-Some.ensures.body
-    ∙ (ap (λ (ifaces : List Iface). flags_in (body_of ifaces c.self.inside.number)) (sym (library_entries c.self.inside.file.bytes.now)) ∙ ap (λ (v : IfaceOf). flags_in (body_of v.library.ifaces v.number)) c.self.view_is))
+    ∙ (ap (λ (ifaces : List Iface). flags_in (body_of ifaces c.self.inside.number)) (sym (library_entries c.self.inside.checked.file.bytes.now)) ∙ ap (λ (v : IfaceOf). flags_in (body_of v.library.ifaces v.number)) c.self.view_is))
 
 pub returns-in-None : goal.returns-in-None
 returns-in-None c =
     ap flags_in c.in-None.ensures.body
-    ∙ (ap (λ (ifaces : List Iface). flags_in (body_of ifaces c.self.inside.number)) (sym (library_entries c.self.inside.file.bytes.now)) ∙ ap (λ (v : IfaceOf). flags_in (body_of v.library.ifaces v.number)) c.self.view_is)
+    ∙ (ap (λ (ifaces : List Iface). flags_in (body_of ifaces c.self.inside.number)) (sym (library_entries c.self.inside.checked.file.bytes.now)) ∙ ap (λ (v : IfaceOf). flags_in (body_of v.library.ifaces v.number)) c.self.view_is)

@@ -7,6 +7,6 @@ use Rattle.descriptor_reader.proofs.iface_views.IfaceView.iid.Goals as goal
 
 pub returns : goal.returns
 returns c =
-    let f = c.self.inside.file in
+    let f = c.self.inside.checked.file in
     ap (λ (v : IfaceOf). option_map (λ (i : Iface). i.iid) (iface_of v)) (sym c.self.view_is)
-    ∙ (iid_is f.bytes.now f.directory c.self.inside.number c.place_of_entry-entry.result f.directory_is c.self.invariant.2 (omega (arith, f.count_is, c.self.invariant.3)) c.place_of_entry-entry.ensures ∙ ap Some (sym c.sixteen.ensures))
+    ∙ (iid_is f.bytes.now f.directory c.self.inside.number c.place_of_entry-entry.result f.directory_is c.self.invariant.0 (omega (arith, f.count_is, c.self.invariant.1)) c.place_of_entry-entry.ensures ∙ ap Some (sym c.sixteen.ensures))

@@ -5,6 +5,6 @@ use Rattle.descriptor_reader.proofs.method_views.MethodView.params.Goals as goal
 
 pub returns-clause-few : goal.returns-clause-few
 returns-clause-few c =
-    let x = c.self.inside.file.bytes.now in
+    let x = c.self.inside.checked.file.bytes.now in
     let p = c.params_of_method-params.result in
     omega (arith, length_values (param_at x) (param_end x) p.from.place p.count)

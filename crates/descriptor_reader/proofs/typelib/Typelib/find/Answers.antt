@@ -9,4 +9,4 @@ use Rattle.descriptor_reader.proofs.typelib.Typelib.find.Goals as goal
 pub returns : goal.returns
 returns c =
     c.find.ensures
-    ∙ (sym (iface_named_table (library_of c.self.inside.file.bytes.now) c.args.name.now) ∙ ap (λ (lib : Library). iface_named (table_of lib) c.args.name.now) c.self.view_is)
+    ∙ (sym (iface_named_table (library_of c.self.inside.checked.file.bytes.now) c.args.name.now) ∙ ap (λ (lib : Library). iface_named (table_of lib) c.args.name.now) c.self.view_is)

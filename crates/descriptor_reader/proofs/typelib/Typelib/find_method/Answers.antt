@@ -12,7 +12,7 @@ use Rattle.descriptor_reader.proofs.typelib.Typelib.find_method.Goals as goal
 
 pub returns-then-k-self-clause-slot : goal.returns-then-k-self-clause-slot
 returns-then-k-self-clause-slot c =
-    let f = c.self.inside.file in
+    let f = c.self.inside.checked.file in
     let x = f.bytes.now in
     sym (member_past c.args.kind c.args.name.now (entries_of x) 249 c.args.k (omega (arith, f.count_is, length_values (entry_at x) entry_end (directory_of x) (count_of x))))
     ∙ (member_is x c.args.kind c.args.name.now c.args.k ∙ ap (λ (lib : Library). member_of (table_of lib) c.args.k c.args.kind c.args.name.now) c.self.view_is)
@@ -20,14 +20,14 @@ returns-then-k-self-clause-slot c =
 pub returns-in-Some-clause-slot : goal.returns-in-Some-clause-slot
 returns-in-Some-clause-slot c =
     c.in-Some.ensures.slot
-    ∙ (member_is c.self.inside.file.bytes.now c.args.kind c.args.name.now c.args.k ∙ ap (λ (lib : Library). member_of (table_of lib) c.args.k c.args.kind c.args.name.now) c.self.view_is)
+    ∙ (member_is c.self.inside.checked.file.bytes.now c.args.kind c.args.name.now c.args.k ∙ ap (λ (lib : Library). member_of (table_of lib) c.args.k c.args.kind c.args.name.now) c.self.view_is)
 
 pub returns-in-None-clause-slot : goal.returns-in-None-clause-slot
 returns-in-None-clause-slot c =
     c.in-None.ensures.slot
-    ∙ (member_is c.self.inside.file.bytes.now c.args.kind c.args.name.now c.args.k ∙ ap (λ (lib : Library). member_of (table_of lib) c.args.k c.args.kind c.args.name.now) c.self.view_is)
+    ∙ (member_is c.self.inside.checked.file.bytes.now c.args.kind c.args.name.now c.args.k ∙ ap (λ (lib : Library). member_of (table_of lib) c.args.k c.args.kind c.args.name.now) c.self.view_is)
 
 pub returns-in-Some-clause-method : goal.returns-in-Some-clause-method
 returns-in-Some-clause-method c =
     ap (λ (lib : Library). slice_get (methods_of lib c.args.k) c.in-Some.found.slot) (sym c.self.view_is)
-    ∙ (ap (λ (ms : List Method). slice_get ms c.in-Some.found.slot) (sym (methods_of_library c.self.inside.file.bytes.now c.args.k)) ∙ c.in-Some.ensures.method)
+    ∙ (ap (λ (ms : List Method). slice_get ms c.in-Some.found.slot) (sym (methods_of_library c.self.inside.checked.file.bytes.now c.args.k)) ∙ c.in-Some.ensures.method)

@@ -11,7 +11,7 @@ use Rattle.descriptor_reader.proofs.typelib.Typelib.method_at.Goals as goal
 
 pub returns-then-k-self-clause-method : goal.returns-then-k-self-clause-method
 returns-then-k-self-clause-method c =
-    let f = c.self.inside.file in
+    let f = c.self.inside.checked.file in
     let x = f.bytes.now in
     sym (methods_past (entries_of x) 249 c.args.k c.args.slot (omega (arith, f.count_is, length_values (entry_at x) entry_end (directory_of x) (count_of x))))
     ∙ (ap (λ (ms : List Method). slice_get ms c.args.slot) (methods_of_library x c.args.k) ∙ ap (λ (lib : Library). slice_get (methods_of lib c.args.k) c.args.slot) c.self.view_is)
@@ -19,9 +19,9 @@ returns-then-k-self-clause-method c =
 pub returns-in-Some-clause-method : goal.returns-in-Some-clause-method
 returns-in-Some-clause-method c =
     c.in-Some.ensures.method
-    ∙ (ap (λ (ms : List Method). slice_get ms c.args.slot) (methods_of_library c.self.inside.file.bytes.now c.args.k) ∙ ap (λ (lib : Library). slice_get (methods_of lib c.args.k) c.args.slot) c.self.view_is)
+    ∙ (ap (λ (ms : List Method). slice_get ms c.args.slot) (methods_of_library c.self.inside.checked.file.bytes.now c.args.k) ∙ ap (λ (lib : Library). slice_get (methods_of lib c.args.k) c.args.slot) c.self.view_is)
 
 pub returns-in-None-clause-method : goal.returns-in-None-clause-method
 returns-in-None-clause-method c =
     c.in-None.ensures.method
-    ∙ (ap (λ (ms : List Method). slice_get ms c.args.slot) (methods_of_library c.self.inside.file.bytes.now c.args.k) ∙ ap (λ (lib : Library). slice_get (methods_of lib c.args.k) c.args.slot) c.self.view_is)
+    ∙ (ap (λ (ms : List Method). slice_get ms c.args.slot) (methods_of_library c.self.inside.checked.file.bytes.now c.args.k) ∙ ap (λ (lib : Library). slice_get (methods_of lib c.args.k) c.args.slot) c.self.view_is)

@@ -1,7 +1,8 @@
 -- The bytes that were written are those of the stack.
 use Rattle.std.proofs.Common.{◌≤◌, length, ap, ◌∙◌, arith}
 use Rattle.raw_block.specs.Bytes.{overwritten}
-use Rattle.object_memory.specs.Numbers.{low_bytes, bytes_of}
+use Rattle.object_memory.specs.Widths.{bytes_of}
+use Rattle.xp_base.specs.LittleEndian.{low_bytes}
 use Rattle.object_memory.proofs.Puts.{puts_written}
 use Rattle.object_memory.proofs.frame.Frame.set_stack.Goals as goal
 

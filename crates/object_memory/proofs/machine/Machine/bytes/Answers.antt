@@ -1,8 +1,9 @@
 -- The bytes that were read are those of the address.
-use Rattle.std.proofs.Common.{◌*◌, ◌≤◌, length, ap, ◌∙◌, arith}
-use Rattle.object_memory.specs.Memory.{MachineView}
+use Rattle.std.proofs.Common.{◌*◌, ◌≤◌, length, subst, ap, ◌∙◌, arith}
+use Rattle.object_memory.specs.Memory.{IsLaidOut, MachineView}
 use Rattle.object_memory.proofs.Held.{holds-bytes}
 use Rattle.object_memory.proofs.Access.{none_found, out_of_memory, read_memory, read_cells}
+use Rattle.object_memory.proofs.Stores.{bytes_at-in_cells, laid-out}
 use Rattle.object_memory.proofs.machine.Machine.bytes.Goals as goal
 
 pub returns-in-Some-clause-value : goal.returns-in-Some-clause-value
@@ -24,3 +25,9 @@ returns-in-Some-clause-holds c = λ inside heap held. returns-in-Some-clause-val
 
 pub returns-in-Some-place_in-clause-holds : goal.returns-in-Some-place_in-clause-holds
 returns-in-Some-place_in-clause-holds c = λ inside heap held. returns-in-Some-place_in-clause-value c inside.0 ∙ holds-bytes c.args.self.now heap c.args.at c.args.n inside held
+
+pub returns-in-Some-place_in-clause-in_cells : goal.returns-in-Some-place_in-clause-in_cells
+returns-in-Some-place_in-clause-in_cells c = λ inside.
+    let f = c.self.inside in let some : 1 ≤ c.args.n = omega (arith, c.if-n-eq0.false) in
+    let laid = subst IsLaidOut c.self.view_is (laid-out f.conv f.heap f.used f.blocks.items f.objects.items f.cells f.pushed f.frame c.self.invariant) in
+    returns-in-Some-place_in-clause-value c some ∙ bytes_at-in_cells c.args.self.now laid c.args.at c.args.n inside

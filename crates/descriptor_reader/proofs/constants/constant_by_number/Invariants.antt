@@ -1,0 +1,7 @@
+use Rattle.std.proofs.Common.{◌≡◌}
+use Rattle.typelib_faults.specs.Faults.{constant_next}
+use Rattle.typelib_faults.specs.Walk.{reach}
+use Rattle.descriptor_reader.proofs.constants.constant_by_number.Given as goal
+
+abbrev pub invariant-loop : goal.invariant-loop
+invariant-loop l = l.at ≡ reach (constant_next l.file.bytes.now) l.fn.constants.from l.counter

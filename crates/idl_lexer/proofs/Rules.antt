@@ -1,0 +1,12 @@
+-- The lemmas that functions name in their attributes.
+use Rattle.idl_lexer.proofs.Basics.{and_then_some}
+use Rattle.idl_lexer.proofs.ReadLaws.{counted_short, counted_by_all, front_by_length, behind_by_length}
+
+-- a reading whose last step gives what it was given
+pub ruleset bind = (and_then_some)
+
+-- so many bytes, of all of which a test is true
+pub ruleset counts = (counted_short, counted_by_all)
+
+-- where a run ends
+pub ruleset runs = (front_by_length, behind_by_length)
