@@ -1,0 +1,6 @@
+pub mod Directory
+pub mod Lowering
+pub mod StaticTable
+pub mod Limits
+pub mod Lowerable
+pub mod Numbering
