@@ -1,12 +1,11 @@
 //! From the bytes of a text to its typelib.
 
-ghost use Rattle.std.specs.Prelude.{◌≡◌, ◌≤◌, IfErr, IfOk, IsTrue, length};
-ghost use Rattle.lib_model.specs.Emit.{emit};
+ghost use Rattle.std.specs.Prelude.{◌≤◌, IfErr, IfOk, IsTrue, length};
 ghost use Rattle.thin_idl.specs.declared.thin_interface.ThinInterface.{ThinInterface};
 ghost use Rattle.thin_idl.specs.Faults.{Blames};
 ghost use Rattle.thin_idl.specs.Lawful.{is_lawful};
 ghost use Rattle.thin_idl.specs.ThinFile.{IsThinFile};
-ghost use Rattle.thin_idl.specs.ThinLibrary.{library_of};
+ghost use Rattle.thin_idl.specs.ThinLibrary.{IsTypelibOf};
 
 use crate::thin_error::ThinError;
 use crate::thin_interface::ThinInterface;
@@ -18,10 +17,11 @@ use std::alloc::Global;
 use typelib_writer::{WriteError, write};
 use xp_base::{Bytes, Memory};
 
-/// The typelib of what a thin text says. The one error is want of memory.
+/// The typelib of what a thin text says, which denotes the text's library. The one error is want of
+/// memory.
 fn write_thin(alloc: Global, thin: &ThinInterface) -> Result<Bytes, Memory>
     requires { IsTrue (is_lawful thin.now) }
-    ensures { IfOk result (λ bytes. bytes ≡ emit (library_of thin.now)) }
+    ensures { IfOk result (IsTypelibOf thin.now) }
 {
     let library = lower_thin(alloc, thin)?;
     match write(alloc, &library) {
@@ -38,8 +38,9 @@ fn write_thin(alloc: Global, thin: &ThinInterface) -> Result<Bytes, Memory>
 pub fn compile_thin(alloc: Global, bytes: &[u8]) -> Result<Bytes, ThinError>
     requires { length bytes.now ≤ 1048576 }
 
-    // The text is a thin one that says something, and this is the typelib of that.
-    ensures typelib { IfOk result (λ typelib. (i : ThinInterface) × IsThinFile bytes.now i × (typelib ≡ emit (library_of i))) }
+    // The text is a thin one that says something, and these bytes denote the library of that.
+    ensures typelib { IfOk result (λ typelib. (i : ThinInterface)
+        × IsThinFile bytes.now i × IsTypelibOf i typelib) }
 
     // Why the text is no thin one, or there was no memory.
     ensures err { IfErr result (Blames bytes.now) }

@@ -1,0 +1,10 @@
+//! Tests of what no clause of the typelib crates says: that their calls succeed, and that the bytes
+//! and tables are those worked out from the XPCOM typelib format by hand.
+#![tactic(auto)]
+
+#[cfg(test)]
+mod examples;
+#[cfg(test)]
+mod tables;
+#[cfg(test)]
+mod written;
