@@ -74,7 +74,8 @@ holds-all conv types patterns frame h =
     ∙ ap (λ fprs. record { gprs = (frame_of conv types patterns).gprs; fprs = fprs; stack = frame.stack }) (whole (fpr_of (arguments conv types patterns)) 8 frame.fprs h.fprs_len h.fprs)
     ∙ ap (λ stack. record { gprs = (frame_of conv types patterns).gprs; fprs = (frame_of conv types patterns).fprs; stack = stack }) (whole (byte_of (arguments conv types patterns)) (stack_len_of conv types) frame.stack h.stack_len h.bytes)
 
-registers : (conv : Conv) → (gprs_of conv ≤ 8) × (fprs_of conv ≤ 8)
+-- no convention has more than 8 registers of a class
+pub registers : (conv : Conv) → (gprs_of conv ≤ 8) × (fprs_of conv ≤ 8)
 registers SysV64 = (omega arith, omega arith)
 registers I386 = (omega arith, omega arith)
 registers Aapcs64 = (omega arith, omega arith)
