@@ -1,4 +1,4 @@
--- The scope of files without faults is accepted.
+-- Each interface of files without faults is accepted.
 use Rattle.std.proofs.Common.{◌≡◌, ◌≢◌, ℕ, zero, suc, ◌+◌, ◌<◌, ◌≤◌, Bool, true, false, ◌==◌, ◌||◌, ◌⊎◌, inl, inr, List, [], ◌∷◌, ◌++◌, length, Option, Some, None, refl, sym, ap, ◌∙◌, arith, subst, if◌then◌else◌, option_and_then, unwrap_or}
 use Rattle.std.specs.Prelude.{slice_get, slice_set, is_some, IsSomeAnd, IsTrue, IsFalse, codes}
 use Rattle.std.proofs.lemmas.Bool.Decides.{nat_tests}
@@ -14,9 +14,9 @@ use Rattle.idl_meaning.specs.declared.scope.Meant.TheVariants as meant
 use Rattle.idl_meaning.specs.declared.scope.ScopeIface.{ScopeIface}
 use Rattle.idl_meaning.specs.Attributes.{has, is_plain}
 use Rattle.idl_meaning.specs.Meaning.{Names, Bound, Typed, Forward, Defined, nothing, learns, meaning_of, sense, native_by, native_meaning, nsid_meaning, said_by}
-use Rattle.idl_meaning.specs.Scopes.{Known, nothing_known, number_or_next, defined_number, parent_bound, next_number, names_within, inside, stands_for, bare_iface, iface_made, members_made, placed, after_interface, after_forward, after_new, with_type, is_typed, is_taken, redeclares, after, after_items, after_files, scope_of}
-use Rattle.idl_meaning.specs.Faults.{Declaration, codes_at, faults_with, member_faults, inner_faults, item_faults, file_faults, faults_from, faults_of}
-use Rattle.idl_meaning.specs.Accepted.{IsMeant, IsResult, AreAcceptedMembers, IsAcceptedIface, IsAcceptedScope}
+use Rattle.idl_meaning.specs.Scopes.{Known, nothing_known, number_or_next, defined_number, parent_bound, next_number, names_within, inside, stands_for, bare_iface, iface_made, members_made, placed, after_interface, after_forward, after_new, with_type, is_typed, is_taken, redeclares, after, after_items, after_files}
+use Rattle.idl_meaning.specs.Faults.{Declaration, codes_at, faults_with, member_faults, inner_faults, item_faults, file_faults, faults_from}
+use Rattle.idl_meaning.specs.Accepted.{IsMeant, IsResult, AreAcceptedMembers, IsAcceptedIface}
 use Rattle.idl_meaning.proofs.Methods.{AreMeant, stands-meant}
 use Rattle.idl_meaning.proofs.Members.{nil_left, nil_right, members-accepted}
 use Rattle.idl_meaning.proofs.Good.{Placed, placed-last, placed-set, as_iface, IsDefinedAt, IsGood, good-typed, defined-kept, meant-placed, good-placed, number-is}
@@ -72,7 +72,7 @@ at-end ifaces x = subst (λ (new : List ScopeIface). Placed ifaces new (length i
 at-number : (ifaces : List ScopeIface) (n : ℕ) (x : ScopeIface) → n < length ifaces → Placed ifaces (placed ifaces n x) n x
 at-number ifaces n x low = subst (λ (new : List ScopeIface). Placed ifaces new n x) (sym (placed-within ifaces n x low)) (placed-set ifaces n x low)
 
-goes-by : (ifaces : List ScopeIface) (x : ScopeIface) (o : Option Bound) → ((b : Bound) → o ≡ Some b → IsMeant (length ifaces) (meaning_of b))
+pub goes-by : (ifaces : List ScopeIface) (x : ScopeIface) (o : Option Bound) → ((b : Bound) → o ≡ Some b → IsMeant (length ifaces) (meaning_of b))
     → Placed ifaces (placed ifaces (number_or_next o (length ifaces)) x) (number_or_next o (length ifaces)) x
 goes-by ifaces x None h = at-end ifaces x
 goes-by ifaces x (Some (Typed m)) h = at-end ifaces x
@@ -89,14 +89,14 @@ bare-accepted file decl name ifaces = record {
   memberless = λ h. refl;
 }
 
-abbrev IsGoodAt : Known → Type 0
+abbrev pub IsGoodAt : Known → Type 0
 IsGoodAt k = IsGood k.names k.ifaces
 
 none-bound : {A : Type 0} (o : Option A) → is_some o ≡ false → o ≡ None
 none-bound None e = refl
 none-bound (Some x) e = absurd cc
 
-forward-good : (file decl : ℕ) (k : Known) (name : List ℕ) → IsGoodAt k → IsGoodAt (after_forward file decl k name)
+pub forward-good : (file decl : ℕ) (k : Known) (name : List ℕ) → IsGoodAt k → IsGoodAt (after_forward file decl k name)
 forward-good file decl k name good = go (is_some (k.names name)) refl where
   go : (b : Bool) → is_some (k.names name) ≡ b
       → IsGoodAt (if b then k else record k { names = learns k.names name (Some (Forward (length k.ifaces))); ifaces = k.ifaces ++ bare_iface file decl name ∷ [] })
@@ -150,41 +150,30 @@ new-good file decl k (item.Native attrs name text) good once none =
 new-good file decl k (item.Forward name) good once none = forward-good file decl k name good
 new-good file decl k (item.Interface i) good once none = interface-good file decl k i good none
 
-item-good : (file decl : ℕ) (k : Known) (d : ItemBody) → IsGoodAt k → item_faults file decl k d ≡ [] → IsGoodAt (after file decl k d)
+pub item-good : (file decl : ℕ) (k : Known) (d : ItemBody) → IsGoodAt k → item_faults file decl k d ≡ [] → IsGoodAt (after file decl k d)
 item-good file decl k d good none = go (redeclares k.names d) refl where
   go : (b : Bool) → redeclares k.names d ≡ b → IsGoodAt (if b then k else after_new file decl k d)
   go true is = good
   go false is = new-good file decl k d good is (nil_right (faults_with file decl 0 (codes_at (Declaration k d))) (inner_faults file decl k d) none)
 
-items-good : (items : List Item) (file decl : ℕ) (k : Known) → IsGoodAt k → file_faults file decl k items ≡ [] → IsGoodAt (after_items file decl k items)
+pub items-good : (items : List Item) (file decl : ℕ) (k : Known) → IsGoodAt k → file_faults file decl k items ≡ [] → IsGoodAt (after_items file decl k items)
 items-good [] file decl k good none = good
 items-good (x ∷ items) file decl k good none =
     items-good items file (suc decl) (after file decl k x.body)
     (item-good file decl k x.body good (nil_left (item_faults file decl k x.body) (file_faults file (suc decl) (after file decl k x.body) items) none))
     (nil_right (item_faults file decl k x.body) (file_faults file (suc decl) (after file decl k x.body) items) none)
 
-files-good : (files : List ClosedFile) (file : ℕ) (k : Known) → IsGoodAt k → faults_from file k files ≡ [] → IsGoodAt (after_files file k files)
+pub files-good : (files : List ClosedFile) (file : ℕ) (k : Known) → IsGoodAt k → faults_from file k files ≡ [] → IsGoodAt (after_files file k files)
 files-good [] file k good none = good
 files-good (f ∷ files) file k good none =
     files-good files (suc file) (after_items file 0 k f.file.items)
     (items-good f.file.items file 0 k good (nil_left (file_faults file 0 k f.file.items) (faults_from (suc file) (after_items file 0 k f.file.items) files) none))
     (nil_right (file_faults file 0 k f.file.items) (faults_from (suc file) (after_items file 0 k f.file.items) files) none)
 
-nothing-good : IsGoodAt nothing_known
+pub nothing-good : IsGoodAt nothing_known
 nothing-good = record {
   meanings = λ name b e. absurd cc;
   each = λ k i e. absurd cc;
   numbered = λ k i e. absurd cc;
   defined_there = λ name number rank e. absurd cc;
 }
-
-once : (names : Names) (ifaces : List ScopeIface) → IsGood names ifaces → (j k : ℕ) (a b : ScopeIface) → slice_get ifaces j ≡ Some a → slice_get ifaces k ≡ Some b → a.name ≡ b.name → j ≡ k
-once names ifaces good j k a b at there same =
-    let one : as_iface (names a.name) ≡ Some j = good.numbered j a at in
-    let two : as_iface (names a.name) ≡ Some k = subst (λ (n : List ℕ). as_iface (names n) ≡ Some k) (sym same) (good.numbered k b there) in
-    cc
-
-pub scope-accepted : (files : List ClosedFile) → faults_of files ≡ [] → IsAcceptedScope (scope_of files)
-scope-accepted files none =
-    let good = files-good files 0 nothing_known nothing-good none in
-    record { each = good.each; named_once = once (after_files 0 nothing_known files).names (after_files 0 nothing_known files).ifaces good }

@@ -21,14 +21,14 @@ use Rattle.idl_meaning.proofs.Members.{meant-weaker, members-weaker}
 -- ---- one name more
 
 -- what holds of what a name means now, and of what it meant before, holds of what it means
-learned : {A : Type 0} (P : Option A → Type 0) (old : List ℕ → Option A) (name : List ℕ) (v : Option A) (n : List ℕ) → (name ≡ n → P v) → P (old n)
+pub learned : {A : Type 0} (P : Option A → Type 0) (old : List ℕ → Option A) (name : List ℕ) (v : Option A) (n : List ℕ) → (name ≡ n → P v) → P (old n)
     → P (learns old name v n)
 learned P old name v n here there = go (bytes_eq name n) refl where
   go : (b : Bool) → bytes_eq name n ≡ b → P (if b then v else old n)
   go true is = here ((bytes_eq-Decides name n).0 is)
   go false is = there
 
-learned-here : {A : Type 0} (old : List ℕ → Option A) (name : List ℕ) (v : Option A) → learns old name v name ≡ v
+pub learned-here : {A : Type 0} (old : List ℕ → Option A) (name : List ℕ) (v : Option A) → learns old name v name ≡ v
 learned-here old name v = ap (λ b. if b then v else old name) ((bytes_eq-Decides name name).1 refl)
 
 -- ---- one interface more, or another in place of one
@@ -43,7 +43,7 @@ last-here : (xs : List ScopeIface) (x : ScopeIface) → slice_get (xs ++ x ∷ [
 last-here [] x = refl
 last-here (y ∷ xs) x = last-here xs x
 
-last-from : (xs : List ScopeIface) (x : ScopeIface) (k : ℕ) (i : ScopeIface) → slice_get (xs ++ x ∷ []) k ≡ Some i
+pub last-from : (xs : List ScopeIface) (x : ScopeIface) (k : ℕ) (i : ScopeIface) → slice_get (xs ++ x ∷ []) k ≡ Some i
     → ((k ≡ length xs) × (x ≡ i)) ⊎ (slice_get xs k ≡ Some i)
 last-from [] x zero i e = inl (refl, let same : x ≡ i = cc in same)
 last-from [] x (suc k) i e = absurd cc
@@ -75,7 +75,7 @@ set-here [] n x h = absurd (omega arith)
 set-here (y ∷ xs) zero x h = refl
 set-here (y ∷ xs) (suc n) x h = set-here xs n x (omega arith)
 
-set-from : (xs : List ScopeIface) (n : ℕ) (x : ScopeIface) (k : ℕ) (i : ScopeIface) → slice_get (slice_set xs n x) k ≡ Some i
+pub set-from : (xs : List ScopeIface) (n : ℕ) (x : ScopeIface) (k : ℕ) (i : ScopeIface) → slice_get (slice_set xs n x) k ≡ Some i
     → ((k ≡ n) × (x ≡ i)) ⊎ (slice_get xs k ≡ Some i)
 set-from [] n x k i e = absurd cc
 set-from (y ∷ xs) zero x zero i e = inl (refl, let same : x ≡ i = cc in same)

@@ -6,3 +6,6 @@ pub mod Methods
 pub mod Members
 pub mod Good
 pub mod AcceptedScope
+pub mod Identified
+pub mod Named
+pub mod WholeScope

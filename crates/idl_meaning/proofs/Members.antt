@@ -61,7 +61,7 @@ module _ (count : ℕ) (at : Inside) (good : AreMeant count at.names) where
 
 -- ---- all members
 
-made-cases : (o : Option ScopeMember) (rest : List ScopeMember) (k : ℕ) (m : ScopeMember) (P : ScopeMember → Type 0)
+pub made-cases : (o : Option ScopeMember) (rest : List ScopeMember) (k : ℕ) (m : ScopeMember) (P : ScopeMember → Type 0)
     → ((x : ScopeMember) → o ≡ Some x → P x) → ((j : ℕ) (x : ScopeMember) → slice_get rest j ≡ Some x → P x)
     → slice_get (cons_option o rest) k ≡ Some m → P m
 made-cases None rest k m P here there e = there k m e

@@ -2,6 +2,7 @@
 use Rattle.std.specs.Prelude.{◌≡◌, ℕ, suc, ◌<◌, Bool, true, false, ◌&&◌, ◌||◌, ◌==◌, List, [], ◌∷◌, length, Option, Some, None, is_some, nat_le, slice_get, IsSomeAnd, IsTrue, IsFalse}
 use Rattle.xp_base.specs.declared.kinds.Dir.{Dir}
 use Rattle.xp_base.specs.declared.kinds.Dir.TheVariants.{Outward}
+use Rattle.idl_grammar.specs.Trees.{IsShortText}
 use Rattle.idl_meaning.specs.declared.scope.Meant.{Meant}
 use Rattle.idl_meaning.specs.declared.scope.Meant.TheVariants as meant
 use Rattle.idl_meaning.specs.declared.scope.ScopeBody.{ScopeBody}
@@ -73,7 +74,19 @@ pub record IsAcceptedIface (ifaces : List ScopeIface) (i : ScopeIface) : Type 0 
   pub parentless : IsFalse i.defined → i.parent ≡ None
   pub memberless : IsFalse i.defined → i.members ≡ []
 
--- The scope of files without faults: each interface, and no two have one name.
+-- its name and those of its members have 1 to 255 bytes, none of which is 0
+pub record IsNamed (i : ScopeIface) : Type 0 where
+  pub named : IsShortText i.name
+  pub members : (k : ℕ) (m : ScopeMember) → slice_get i.members k ≡ Some m → IsShortText m.name
+
+-- no two interfaces that are defined have one identifier
+abbrev pub AreIdentifiedOnce : List ScopeIface → Type 0
+AreIdentifiedOnce ifaces =
+    (j k : ℕ) (a b : ScopeIface) → slice_get ifaces j ≡ Some a → slice_get ifaces k ≡ Some b → IsTrue a.defined → IsTrue b.defined → a.iid ≡ b.iid → j ≡ k
+
+-- The scope of lawful files without faults: each interface, and no two have one name, or, defined, one identifier.
 pub record IsAcceptedScope (s : Scope) : Type 0 where
   pub each : (k : ℕ) (i : ScopeIface) → slice_get s.ifaces k ≡ Some i → IsAcceptedIface s.ifaces i
+  pub named : (k : ℕ) (i : ScopeIface) → slice_get s.ifaces k ≡ Some i → IsNamed i
   pub named_once : (j k : ℕ) (a b : ScopeIface) → slice_get s.ifaces j ≡ Some a → slice_get s.ifaces k ≡ Some b → a.name ≡ b.name → j ≡ k
+  pub identified_once : AreIdentifiedOnce s.ifaces

@@ -19,9 +19,10 @@ pub fn faults_are_ascending()
     ensures { (files : List ClosedFile) → Ascending Before (faults_of files) }
 {}
 
-/// The scope of files without faults is accepted, so that the stages above can rely on it.
+/// The scope of lawful files without faults is accepted, so that the stages above can rely on it.
 pub fn a_scope_without_faults_is_accepted()
-    ensures { (files : List ClosedFile) → faults_of files ≡ [] → IsAcceptedScope (scope_of files) }
+    ensures { (files : List ClosedFile) → AreLawfulFiles files → faults_of files ≡ []
+        → IsAcceptedScope (scope_of files) }
 {}
 
 /// The parts of lawful files are few enough to be numbered in 32 bits.
