@@ -1,11 +1,10 @@
 -- A library of one interface that has nothing but constants is valid.
-use Rattle.std.proofs.Common.{◌≡◌, ℕ, pos, ◌+◌, ◌<◌, ◌≤◌, List, [], ◌∷◌, length, None, Some, arith, inl, refl, subst, sum_by, sym}
+use Rattle.std.proofs.Common.{◌≡◌, ℕ, pos, ◌<◌, ◌≤◌, List, [], ◌∷◌, length, None, Some, arith, inl, refl, subst, sym}
 use Rattle.std.specs.Prelude.{All, replicate}
 use Rattle.std.proofs.lemmas.List.Sums.{sum_by-cons}
 use Rattle.xp_base.specs.declared.kinds.ConstKind.TheVariants as kinds
 use Rattle.lib_model.specs.declared.contents.Constant.{Constant}
 use Rattle.lib_model.specs.declared.contents.Iface.{Iface}
-use Rattle.lib_model.specs.declared.contents.Library.{Library}
 use Rattle.lib_model.specs.Valid.{AreKnownBits, IsChain, IsConstant, IsIface, IsName, IsValid, first_of_chain, iface_bits, iface_items}
 use Rattle.lib_model.proofs.ValidFacts.{name_from_bytes}
 use Rattle.lib_model.proofs.ThinFacts.{all_alone}
