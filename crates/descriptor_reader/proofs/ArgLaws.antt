@@ -23,11 +23,12 @@ use Rattle.descriptor_reader.specs.Shapes.{IsAtArg, params_before}
 param_counted : (m : Method) (position number : ℕ) → position < length (proto_of m) → slice_get (proto_of m) position ≡ option_map (arg_of m) (slice_get m.params number) → number < length m.params
 param_counted m position number low stands =
     elim (cases_lt number (length m.params)) as (λ _. number < length m.params) [
-      inl within ↦ within
-    | inr past ↦
-        let none : slice_get (proto_of m) position ≡ None = stands ∙ ap (option_map (arg_of m)) (slice_get_past m.params number past)
-        in let some : slice_get (proto_of m) position ≡ Some (get_or (proto_of m) position context_arg) = slice_get-get_or (proto_of m) position context_arg low
-        in absurd (cc) ]
+      | inl within ↦ within
+      | inr past ↦
+          let none : slice_get (proto_of m) position ≡ None = stands ∙ ap (option_map (arg_of m)) (slice_get_past m.params number past)
+          in let some : slice_get (proto_of m) position ≡ Some (get_or (proto_of m) position context_arg) = slice_get-get_or (proto_of m) position context_arg low
+          in absurd (cc)
+    ]
 
 pub arg_there : (x : List ℕ) (c : Cursor) (s : Shape) (position place number : ℕ) → IsAtArg x c s position place → position < length (proto_of (method_at x c.place)) → slice_get (proto_of (method_at x c.place)) position ≡ option_map (arg_of (method_at x c.place)) (slice_get (method_at x c.place).params number) → params_before s position ≡ number → (form_fault x (place + 1) ≡ None) × (place < length x) × (slice_get (method_at x c.place).params number ≡ Some (param_at x place))
 unfolding method_at

@@ -64,7 +64,8 @@ pub record IsAtArg (x : List ℕ) (method : Cursor) (s : Shape) (position place 
   pub reached : place ≡ reach (param_end x) (method.place + 6) (params_before s position)
 
 -- the same, where the prototype of the method ends at a position
-pub record IsArgIter (x : List ℕ) (method : Cursor) (s : Shape) (position end place : ℕ) : Type 0 where
-  pub at : IsAtArg x method s position place
-  pub ends : end ≡ length (slot_of (method_at x method.place)).proto
-  pub low : end < 2 ^ 32
+pub record IsArgIter (x : List ℕ) (method : Cursor) (s : Shape) (position end place : ℕ) : Type 0
+  where
+    pub at : IsAtArg x method s position place
+    pub ends : end ≡ length (slot_of (method_at x method.place)).proto
+    pub low : end < 2 ^ 32

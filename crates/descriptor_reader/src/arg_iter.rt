@@ -15,8 +15,9 @@ use typelib_check::arguments::param_value;
 use typelib_check::lengths::param_behind;
 use typelib_faults::Cursor;
 
-/// The arguments of the prototype of a method, in order, those that are added among them, without the object's address. It
-/// takes no memory of its own, and stands for those that are still to come.
+/// The arguments of the prototype of a method, in order, those that are added among them, without
+/// the object's address. It takes no memory of its own, and stands for those that are still to
+/// come.
 #[derive(Drop)]
 pub struct ArgIter<'a> {
     pub(crate) file: File<'a>,
@@ -39,16 +40,24 @@ impl<'a> Model for ArgIter<'a> {
 
     ghost Value = { List ProtoArg };
 
-    ghost view = { λ s. drop s.position (slot_of (method_at s.file.bytes.now s.method.place)).proto };
+    ghost view = { λ s. drop s.position
+        (slot_of (method_at s.file.bytes.now s.method.place)).proto };
 
     ghost invariant = { λ s. IsArgIter s.file.bytes.now s.method s.shape s.position s.end s.place };
 }
 
 /// The argument at this position, and the place of the parameter behind it.
-fn next_arg(file: &File<'_>, method: Cursor, shape: Shape, position: u32, place: usize) -> (ProtoArg, usize)
+fn next_arg(
+    file: &File<'_>,
+    method: Cursor,
+    shape: Shape,
+    position: u32,
+    place: usize,
+) -> (ProtoArg, usize)
     requires at { IsAtArg file.now.bytes.now method shape position place }
     requires low { position < length (proto_of (method_at file.now.bytes.now method.place)) }
-    ensures arg { slice_get (proto_of (method_at file.now.bytes.now method.place)) position ≡ Some result.0 }
+    ensures arg { slice_get (proto_of (method_at file.now.bytes.now method.place)) position
+        ≡ Some result.0 }
     ensures place { IsAtArg file.now.bytes.now method shape (position + 1) result.1 }
 {
     match part_at(shape, position) {
@@ -72,7 +81,13 @@ impl<'a> Iterator for ArgIter<'a> {
         if self.position >= self.end {
             return None;
         }
-        let (arg, place) = next_arg(&self.file, self.method, self.shape, self.position, self.place);
+        let (arg, place) = next_arg(
+            &self.file,
+            self.method,
+            self.shape,
+            self.position,
+            self.place,
+        );
         self.position += 1;
         self.place = place;
         Some(arg)

@@ -30,6 +30,3 @@ pub use method_views::MethodView;
 pub use param_iter::ParamIter;
 pub use typelib::Typelib;
 pub use typelib_faults::BadTypelib;
-
-#[cfg(test)]
-mod tests;

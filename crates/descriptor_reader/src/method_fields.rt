@@ -4,11 +4,10 @@ ghost use Rattle.typelib_faults.specs.Faults.{method_fault};
 ghost use Rattle.typelib_faults.specs.Places.{method_at};
 ghost use Rattle.typelib_check.specs.Parts.{AreFineParams, params_of};
 
-use bitflags::Flags;
 use call_model::MemberKind;
+use lib_model::MethodFlags;
 use typelib_check::names::known_name;
 use typelib_check::{File, Params};
-use lib_model::MethodFlags;
 use typelib_faults::Cursor;
 
 /// The flags of the method at a cursor, which has no fault.
@@ -30,19 +29,13 @@ pub(crate) fn name_of_method<'a>(file: &File<'a>, at: Cursor) -> &'a [u8]
     known_name(file, at.place + 1)
 }
 
-/// What the method at a cursor, which has no fault, is: a method, or the reading or the writing half of an attribute.
+/// What the method at a cursor, which has no fault, is: a method, or the reading or the writing
+/// half of an attribute.
 pub(crate) fn kind_of_method(file: &File<'_>, at: Cursor) -> MemberKind
     requires { method_fault file.now.bytes.now at ≡ None }
     ensures { result ≡ kind_of (method_at file.now.bytes.now at.place) }
 {
-    let flags = flags_of_method(file, at);
-    if flags.contains(MethodFlags::GETTER) {
-        MemberKind::Get
-    } else if flags.contains(MethodFlags::SETTER) {
-        MemberKind::Set
-    } else {
-        MemberKind::Plain
-    }
+    flags_of_method(file, at).kind()
 }
 
 /// The parameters of the method at a cursor, which has no fault.
@@ -50,7 +43,8 @@ pub(crate) fn kind_of_method(file: &File<'_>, at: Cursor) -> MemberKind
 pub(crate) fn params_of_method(file: &File<'_>, at: Cursor) -> Params
     requires { method_fault file.now.bytes.now at ≡ None }
     ensures fine { AreFineParams file.now.bytes.now result }
-    ensures are { params_of file.now.bytes.now result ≡ (method_at file.now.bytes.now at.place).params }
+    ensures are { params_of file.now.bytes.now result
+        ≡ (method_at file.now.bytes.now at.place).params }
 {
     Params {
         from: Cursor {

@@ -10,9 +10,9 @@ use crate::proto_args::arg_of_method;
 use crate::shapes::{position, shape_of_method};
 use crate::statuses::status_of_method;
 use call_model::{MemberKind, ProtoArg, Status};
-use typelib_check::CheckedFile;
 use lib_model::MethodFlags;
 use std::marker::Model;
+use typelib_check::CheckedFile;
 use typelib_faults::Cursor;
 
 /// A method of a typelib that has been checked, with its slot.
@@ -32,9 +32,9 @@ impl<'a> Model for MethodView<'a> {
     ghost Value = { MethodOf };
 
     ghost view = { λ v. record {
-        library = library_of v.checked.file.bytes.now;
-        method = method_at v.checked.file.bytes.now v.at.place;
-        slot = v.slot;
+      library = library_of v.checked.file.bytes.now;
+      method = method_at v.checked.file.bytes.now v.at.place;
+      slot = v.slot;
     } };
 
     ghost invariant = { λ v. method_fault v.checked.file.bytes.now v.at ≡ None };
@@ -85,8 +85,8 @@ impl<'a> MethodView<'a> {
         u32::from(params_of_method(&self.checked.file, self.at).count)
     }
 
-    /// How many arguments its prototype has, without the object's address: one for each parameter, and those that are
-    /// added. A method that may not be called has none.
+    /// How many arguments its prototype has, without the object's address: one for each parameter,
+    /// and those that are added. A method that may not be called has none.
     pub fn positions(&self) -> u32
         ensures length { result ≡ length (slot_of self.now.method).proto }
         ensures few { result ≤ 257 }
@@ -113,8 +113,8 @@ impl<'a> MethodView<'a> {
         }
     }
 
-    /// The position in its prototype of the parameter of this number, counted from 0. None where there are not as many
-    /// parameters, or it may not be called.
+    /// The position in its prototype of the parameter of this number, counted from 0. None where
+    /// there are not as many parameters, or it may not be called.
     pub fn position_of(&self, param: u32) -> Option<u32>
         ensures { result ≡ position_of_param self.now.method param }
     {
@@ -130,8 +130,9 @@ impl<'a> MethodView<'a> {
         }
     }
 
-    /// The argument at a position of its prototype, counted from 0 behind the object's address: that of a parameter, or one
-    /// that is added. None where there are not as many, as in a method that may not be called.
+    /// The argument at a position of its prototype, counted from 0 behind the object's address:
+    /// that of a parameter, or one that is added. None where there are not as many, as in a method
+    /// that may not be called.
     pub fn arg(&self, position: u32) -> Option<ProtoArg>
         ensures { result ≡ slice_get (slot_of self.now.method).proto position }
     {
@@ -141,8 +142,8 @@ impl<'a> MethodView<'a> {
         }
     }
 
-    /// The arguments of its prototype in order, without the object's address: those of parameters, and those that are added.
-    /// A method that may not be called has none.
+    /// The arguments of its prototype in order, without the object's address: those of parameters,
+    /// and those that are added. A method that may not be called has none.
     #[tactic(auto, using(typelib_check::proofs::PartLaws::method_inside))]
     pub fn args(&self) -> ArgIter<'a>
         ensures items { result ≡ (slot_of self.now.method).proto }

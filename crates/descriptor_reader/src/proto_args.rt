@@ -8,10 +8,9 @@ ghost use Rattle.descriptor_reader.specs.Shapes.{HasShape};
 use crate::method_fields::params_of_method;
 use crate::method_params::param_by_number;
 use crate::shapes::{Part, Shape, part_at, position, shape_of_method};
-use crate::statuses::is_string_class;
 use bitflags::Flags;
 use call_model::{CType, Note, Pass, ProtoArg};
-use lib_model::{Param, ParamFlags, XType, tags};
+use lib_model::{Param, ParamFlags, XType};
 use typelib_check::File;
 use typelib_faults::Cursor;
 
@@ -36,24 +35,6 @@ pub(crate) fn count_arg() -> ProtoArg
         ty: CType::U8,
         optional: false,
         note: Note::Argc,
-    }
-}
-
-/// How the argument of a parameter is passed.
-fn pass_of(param: Param) -> Pass
-    ensures { result ≡ table.pass_of param }
-{
-    let tag = param.ty.tag();
-    if is_string_class(tag) {
-        Pass::ByRef
-    } else if param.flags.contains(ParamFlags::OUT) {
-        Pass::ByCell {
-            inward: param.flags.contains(ParamFlags::IN),
-        }
-    } else if tag == tags::NSID {
-        Pass::ByRef
-    } else {
-        Pass::ByValue
     }
 }
 
@@ -90,10 +71,9 @@ pub(crate) fn arg_of(shape: Shape, param: Param) -> ProtoArg
     ensures { (m : Method) → HasShape shape m → result ≡ table.arg_of m param }
 {
     ProtoArg {
-        pass: pass_of(param),
+        pass: param.pass(),
         ty: param.ty.c_type(),
-        optional: param.flags.contains(ParamFlags::OPTIONAL)
-            && !param.flags.contains(ParamFlags::RETVAL),
+        optional: param.flags.contains(ParamFlags::OPTIONAL) && !param.gives_value(),
         note: note_of(shape, param.ty),
     }
 }

@@ -37,7 +37,8 @@ pub(crate) enum Part {
     OfParam(u32),
 }
 
-/// How many of these parameters, which have no fault, stand before a value that the method gives, as the last one may.
+/// How many of these parameters, which have no fault, stand before a value that the method gives,
+/// as the last one may.
 #[tactic(auto, using(crate::proofs::PrototypeLaws::none_written))]
 fn written_of(file: &File<'_>, params: Params) -> u8
     requires { AreFineParams file.now.bytes.now params }
@@ -64,7 +65,8 @@ fn written_of(file: &File<'_>, params: Params) -> u8
     }
 }
 
-/// How many arguments the flags of a method add before all parameters: in a getter and a setter the context.
+/// How many arguments the flags of a method add before all parameters: in a getter and a setter
+/// the context.
 fn first_of(flags: MethodFlags) -> u16
     ensures is { (m : Method) → m.flags ≡ flags → result ≡ length (first_args m) }
     ensures few { result ≤ 1 }
@@ -73,7 +75,8 @@ fn first_of(flags: MethodFlags) -> u16
     u16::from(flags.contains(MethodFlags::IMPLICIT_JSCONTEXT) && attribute)
 }
 
-/// How many contexts the flags of a method add behind the written parameters: one, but not in a getter and a setter.
+/// How many contexts the flags of a method add behind the written parameters: one, but not in a
+/// getter and a setter.
 fn context_of(flags: MethodFlags) -> u16
     ensures is { (m : Method) → m.flags ≡ flags → result ≡ length (middle_context m) }
     ensures few { result ≤ 1 }
@@ -82,8 +85,8 @@ fn context_of(flags: MethodFlags) -> u16
     u16::from(flags.contains(MethodFlags::IMPLICIT_JSCONTEXT) && !attribute)
 }
 
-/// How many arguments the flags of a method add behind the written parameters: the context, but in a getter and a setter, and
-/// the number of optional arguments.
+/// How many arguments the flags of a method add behind the written parameters: the context, but in
+/// a getter and a setter, and the number of optional arguments.
 fn middle_of(flags: MethodFlags) -> u16
     ensures is { (m : Method) → m.flags ≡ flags → result ≡ length (middle_args m) }
     ensures few { result ≤ 2 }

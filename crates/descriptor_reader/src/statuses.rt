@@ -1,7 +1,7 @@
 ghost use Rattle.std.specs.Prelude.{◌≡◌, None};
 ghost use Rattle.std.specs.List.{list_any};
 ghost use Rattle.lib_model.specs.declared.param_types.Param.{Param};
-ghost use Rattle.lib_model.specs.Table.{is_opaque, is_opaque_tag, is_string_class, status_of};
+ghost use Rattle.lib_model.specs.Table.{is_opaque, status_of};
 ghost use Rattle.typelib_faults.specs.Faults.{method_fault};
 ghost use Rattle.typelib_faults.specs.Places.{method_at};
 ghost use Rattle.typelib_check.specs.Parts.{AreFineParams, params_of};
@@ -9,51 +9,21 @@ ghost use Rattle.typelib_check.specs.Parts.{AreFineParams, params_of};
 use crate::method_fields::{flags_of_method, params_of_method};
 use bitflags::Flags;
 use call_model::Status;
+use lib_model::MethodFlags;
 use typelib_check::arguments::known_param;
 use typelib_check::{File, Params};
-use lib_model::{Elem, MethodFlags, XType, tags};
 use typelib_faults::Cursor;
-
-/// Whether the tag is that of void, which stands for a native type, or of jsval.
-fn is_opaque_tag(tag: u8) -> bool
-    ensures { result ≡ is_opaque_tag tag }
-{
-    matches!(tag, tags::VOID | tags::JSVAL)
-}
-
-/// Whether the tag is that of a string class: DOMString, UTF8String, CString or AString.
-pub(crate) fn is_string_class(tag: u8) -> bool
-    ensures { result ≡ is_string_class tag }
-{
-    matches!(
-        tag,
-        tags::DOMSTRING | tags::UTF8STRING | tags::CSTRING | tags::ASTRING
-    )
-}
-
-/// Whether no call can pass a value of the type.
-fn is_opaque(ty: XType) -> bool
-    ensures { result ≡ is_opaque ty }
-{
-    match ty {
-        XType::Plain(tag) => is_opaque_tag(tag),
-        XType::Array {
-            elem: Elem::Plain(tag),
-            ..
-        } => is_opaque_tag(tag) || is_string_class(tag),
-        _ => false,
-    }
-}
 
 /// Whether one of these parameters, which have no fault, has a type that no call can pass.
 fn any_opaque(file: &File<'_>, params: Params) -> bool
     requires { AreFineParams file.now.bytes.now params }
-    ensures { result ≡ list_any (λ (p : Param). is_opaque p.ty) (params_of file.now.bytes.now params) }
+    ensures { result ≡ list_any (λ (p : Param). is_opaque p.ty)
+        (params_of file.now.bytes.now params) }
 {
     let mut at = params.from;
     for _ in 0..params.count {
         let (found, next) = known_param(file, at);
-        if is_opaque(found.ty) {
+        if found.ty.is_opaque() {
             return true;
         }
         at = next;

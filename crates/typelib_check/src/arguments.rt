@@ -41,7 +41,8 @@ pub fn param_value(file: &File<'_>, place: usize) -> Param
     }
 }
 
-/// The tags of these parameters by their numbers, which a byte holds; None where there is no such parameter.
+/// The tags of these parameters by their numbers, which a byte holds; None where there is no such
+/// parameter.
 fn tags_of_params(file: &File<'_>, params: Params) -> [Option<u8>; 256]
     requires { AreFineParams file.now.bytes.now params }
     ensures { HasTags result (params_of file.now.bytes.now params) }
@@ -67,7 +68,8 @@ fn bad_argument(place: usize) -> BadTypelib
 
 /// Tries whether the number at `place` is that of a parameter that can tell a size or a length.
 fn count_arg(found: &[Option<u8>; 256], number: u8, place: usize) -> Result<(), BadTypelib>
-    ensures { (params : List Param) → HasTags found.now params → Tries result (count_arg_fault params number place) }
+    ensures { (params : List Param) → HasTags found.now params
+        → Tries result (count_arg_fault params number place) }
 {
     let tag = found[usize::from(number)];
     match tag {
@@ -78,7 +80,8 @@ fn count_arg(found: &[Option<u8>; 256], number: u8, place: usize) -> Result<(), 
 
 /// Tries whether the number at `place` is that of a parameter of the type nsIID.
 fn iid_arg(found: &[Option<u8>; 256], number: u8, place: usize) -> Result<(), BadTypelib>
-    ensures { (params : List Param) → HasTags found.now params → Tries result (iid_arg_fault params number place) }
+    ensures { (params : List Param) → HasTags found.now params
+        → Tries result (iid_arg_fault params number place) }
 {
     let tag = found[usize::from(number)];
     match tag {
@@ -90,7 +93,8 @@ fn iid_arg(found: &[Option<u8>; 256], number: u8, place: usize) -> Result<(), Ba
 /// Tries the number of an argument in the type of an element, which begins at `place`.
 fn elem_args(found: &[Option<u8>; 256], elem: Elem, place: usize) -> Result<(), BadTypelib>
     requires { place + 1 < 2 ^ 64 }
-    ensures { (params : List Param) → HasTags found.now params → Tries result (elem_args_fault params place elem) }
+    ensures { (params : List Param) → HasTags found.now params
+        → Tries result (elem_args_fault params place elem) }
 {
     match elem {
         Elem::IidIs(number) => iid_arg(found, number, place + 1),
@@ -101,7 +105,8 @@ fn elem_args(found: &[Option<u8>; 256], elem: Elem, place: usize) -> Result<(), 
 /// Tries the numbers of arguments in a type, which begins at `place`.
 fn type_args(found: &[Option<u8>; 256], ty: XType, place: usize) -> Result<(), BadTypelib>
     requires { place + 4 < 2 ^ 64 }
-    ensures { (params : List Param) → HasTags found.now params → Tries result (type_args_fault params place ty) }
+    ensures { (params : List Param) → HasTags found.now params
+        → Tries result (type_args_fault params place ty) }
 {
     match ty {
         XType::IidIs(number) => iid_arg(found, number, place + 1),
@@ -121,8 +126,13 @@ fn type_args(found: &[Option<u8>; 256], ty: XType, place: usize) -> Result<(), B
 /// Tries the numbers of arguments of all these parameters, which have no fault otherwise.
 pub fn arguments(file: &File<'_>, params: Params) -> Result<(), BadTypelib>
     requires { AreFineParams file.now.bytes.now params }
-    ensures { Tries result (walk (args_fault file.now.bytes.now (params_of file.now.bytes.now params)) (param_end file.now.bytes.now) params.from.place params.count) }
+    ensures { Tries result
+        (walk (args_fault file.now.bytes.now (params_of file.now.bytes.now params))
+        (param_end file.now.bytes.now) params.from.place params.count) }
 {
+    if params.count == 0 {
+        return Ok(());
+    }
     let found_tags = tags_of_params(file, params);
     let mut at = params.from;
     for _ in 0..params.count {

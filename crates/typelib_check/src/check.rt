@@ -8,8 +8,8 @@ use crate::interfaces::entries;
 use typelib_faults::BadTypelib;
 use xp_base::MAX_TYPELIB;
 
-/// The file that these bytes are, of which there are at most `MAX_TYPELIB`, where they have no fault. Otherwise the
-/// answer is the first fault, in the order in which a typelib is read.
+/// The file that these bytes are, of which there are at most `MAX_TYPELIB`, where they have no
+/// fault. Otherwise the answer is the first fault, in the order in which a typelib is read.
 #[tactic(auto, unfolding(typelib_faults::specs::Faults::first_fault))]
 pub fn checked(bytes: &[u8]) -> Result<CheckedFile<'_>, BadTypelib>
     requires { length bytes.now ≤ MAX_TYPELIB }

@@ -23,7 +23,8 @@ pub fn bad_tag(place: usize) -> BadTypelib
 
 /// The tag of the type whose byte stands at `place`.
 pub fn tag(file: &File<'_>, place: usize) -> Result<u8, BadTypelib>
-    ensures gives { Gives (λ v. v) result (past file.now.bytes.now place 1) (tag_at file.now.bytes.now place) }
+    ensures gives { Gives (λ v. v) result (past file.now.bytes.now place 1)
+        (tag_at file.now.bytes.now place) }
     ensures inside { OnOk result (place < length file.now.bytes.now) }
 {
     Ok(byte(file, place)? % TAG_COUNT)
@@ -32,7 +33,8 @@ pub fn tag(file: &File<'_>, place: usize) -> Result<u8, BadTypelib>
 /// The type of an element, which begins at `place`. Its numbers are taken as they are.
 #[tactic(auto, unfolding(typelib_faults::specs::Faults::elem_form_fault, typelib_faults::specs::Places::elem_at))]
 fn elem_form(file: &File<'_>, place: usize) -> Result<Elem, BadTypelib>
-    ensures { Gives (λ v. v) result (elem_form_fault file.now.bytes.now place) (elem_at file.now.bytes.now place) }
+    ensures { Gives (λ v. v) result (elem_form_fault file.now.bytes.now place)
+        (elem_at file.now.bytes.now place) }
 {
     match tag(file, place)? {
         tags::INTERFACE => Ok(Elem::Iface(half(file, place + 1)?)),
@@ -46,7 +48,8 @@ fn elem_form(file: &File<'_>, place: usize) -> Result<Elem, BadTypelib>
 /// The type that begins at `place`. Its numbers are taken as they are.
 #[tactic(auto, unfolding(typelib_faults::specs::Faults::form_fault, typelib_faults::specs::Places::type_at))]
 pub fn type_form(file: &File<'_>, place: usize) -> Result<XType, BadTypelib>
-    ensures gives { Gives (λ v. v) result (form_fault file.now.bytes.now place) (type_at file.now.bytes.now place) }
+    ensures gives { Gives (λ v. v) result (form_fault file.now.bytes.now place)
+        (type_at file.now.bytes.now place) }
     ensures inside { OnOk result (place < length file.now.bytes.now) }
 {
     match tag(file, place)? {

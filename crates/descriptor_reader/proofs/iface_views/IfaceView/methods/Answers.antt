@@ -39,5 +39,5 @@ returns-clause-few c =
       own,
       own_few x c.self.inside.number f.is_fine c.self.invariant.0 (omega (arith, f.file.count_is, c.self.invariant.1)),
       in_slots_length (library_of x) c.first_slot.result (values (method_at x) (method_end x) m.result.from.place m.result.count),
-      length_values (method_at x) (method_end x) m.result.from.place m.result.count
+      length_values (method_at x) (method_end x) m.result.from.place m.result.count,
     )
