@@ -18,7 +18,8 @@ thin_param name = record { flags = record { bits = 128 }; ty = types.Plain 2 }
 
 -- it gives nothing, and has no flags
 abbrev pub thin_method : ThinMethod → Method
-thin_method m = record { name = m.name; flags = record { bits = 0 }; params = map thin_param m.params }
+thin_method m =
+    record { name = m.name; flags = record { bits = 0 }; params = map thin_param m.params }
 
 -- It has no namespace, no parent and no constants, and no flags.
 abbrev pub thin_iface : ThinInterface → Iface
@@ -26,7 +27,12 @@ thin_iface i = record {
   name = i.name;
   namespace = None;
   iid = i.iid;
-  body = Some (record { parent = 0; methods = map thin_method i.methods; constants = []; flags = record { bits = 0 } });
+  body = Some (record {
+    parent = 0;
+    methods = map thin_method i.methods;
+    constants = [];
+    flags = record { bits = 0 };
+  });
 }
 
 -- the library of a thin text: its one interface, with its methods in order of writing
