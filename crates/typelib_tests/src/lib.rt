@@ -5,6 +5,10 @@
 #[cfg(test)]
 mod examples;
 #[cfg(test)]
+mod faults;
+#[cfg(test)]
 mod tables;
+#[cfg(test)]
+mod views;
 #[cfg(test)]
 mod written;
