@@ -1,6 +1,6 @@
 -- Each interface of files without faults is accepted.
-use Rattle.std.proofs.Common.{◌≡◌, ◌≢◌, ℕ, zero, suc, ◌+◌, ◌<◌, ◌≤◌, Bool, true, false, ◌==◌, ◌||◌, ◌⊎◌, inl, inr, List, [], ◌∷◌, ◌++◌, length, Option, Some, None, refl, sym, ap, ◌∙◌, arith, subst, if◌then◌else◌, option_and_then, unwrap_or}
-use Rattle.std.specs.Prelude.{slice_get, slice_set, is_some, IsSomeAnd, IsTrue, IsFalse, codes}
+use Rattle.std.proofs.Common.{◌≡◌, ℕ, suc, ◌<◌, Bool, true, false, ◌==◌, inl, inr, List, [], ◌∷◌, ◌++◌, length, Option, Some, None, refl, sym, ap, arith, subst, if◌then◌else◌, unwrap_or}
+use Rattle.std.specs.Prelude.{slice_set, is_some, codes}
 use Rattle.std.proofs.lemmas.Bool.Decides.{nat_tests}
 use Rattle.std.proofs.lemmas.Option.{slice_get_past}
 use Rattle.idl_grammar.specs.declared.tree.Attr.{Attr}
@@ -13,13 +13,13 @@ use Rattle.idl_meaning.specs.declared.scope.Meant.{Meant}
 use Rattle.idl_meaning.specs.declared.scope.Meant.TheVariants as meant
 use Rattle.idl_meaning.specs.declared.scope.ScopeIface.{ScopeIface}
 use Rattle.idl_meaning.specs.Attributes.{has, is_plain}
-use Rattle.idl_meaning.specs.Meaning.{Names, Bound, Typed, Forward, Defined, nothing, learns, meaning_of, sense, native_by, native_meaning, nsid_meaning, said_by}
-use Rattle.idl_meaning.specs.Scopes.{Known, nothing_known, number_or_next, defined_number, parent_bound, next_number, names_within, inside, stands_for, bare_iface, iface_made, members_made, placed, after_interface, after_forward, after_new, with_type, is_typed, is_taken, redeclares, after, after_items, after_files}
-use Rattle.idl_meaning.specs.Faults.{Declaration, codes_at, faults_with, member_faults, inner_faults, item_faults, file_faults, faults_from}
-use Rattle.idl_meaning.specs.Accepted.{IsMeant, IsResult, AreAcceptedMembers, IsAcceptedIface}
-use Rattle.idl_meaning.proofs.Methods.{AreMeant, stands-meant}
+use Rattle.idl_meaning.specs.Meaning.{Names, Bound, Typed, Forward, Defined, learns, meaning_of, sense, native_by, native_meaning, nsid_meaning, said_by}
+use Rattle.idl_meaning.specs.Scopes.{Known, nothing_known, number_or_next, defined_number, parent_bound, next_number, inside, stands_for, bare_iface, iface_made, members_made, placed, after_interface, after_forward, after_new, redeclares, after, after_items, after_files}
+use Rattle.idl_meaning.specs.Faults.{Declaration, codes_at, faults_with, inner_faults, item_faults, file_faults, faults_from}
+use Rattle.idl_meaning.specs.Accepted.{IsMeant, IsResult, IsAcceptedIface}
+use Rattle.idl_meaning.proofs.Methods.{stands-meant}
 use Rattle.idl_meaning.proofs.Members.{nil_left, nil_right, members-accepted}
-use Rattle.idl_meaning.proofs.Good.{Placed, placed-last, placed-set, as_iface, IsDefinedAt, IsGood, good-typed, defined-kept, meant-placed, good-placed, number-is}
+use Rattle.idl_meaning.proofs.Good.{Placed, placed-last, placed-set, IsDefinedAt, IsGood, good-typed, defined-kept, meant-placed, good-placed}
 
 -- ---- natives
 

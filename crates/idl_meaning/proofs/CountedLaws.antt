@@ -1,5 +1,5 @@
 -- A lawful file has few enough parts to be numbered.
-use Rattle.std.proofs.Common.{◌≡◌, ℕ, suc, ◌+◌, ◌<◌, ◌≤◌, ◌^◌, List, [], ◌∷◌, length, arith}
+use Rattle.std.proofs.Common.{ℕ, ◌<◌, ◌^◌, List, [], ◌∷◌, length, arith}
 use Rattle.std.specs.Prelude.{All}
 use Rattle.std.proofs.lemmas.List.Elements.{All-head, All-tail}
 use Rattle.idl_grammar.specs.declared.tree.ClosedFile.{ClosedFile}
@@ -11,7 +11,7 @@ use Rattle.idl_grammar.specs.declared.tree.Member.{Member}
 use Rattle.idl_grammar.specs.declared.tree.MemberBody.{MemberBody}
 use Rattle.idl_grammar.specs.declared.tree.MemberBody.TheVariants as member
 use Rattle.idl_grammar.specs.Texts.{IsLawfulFile}
-use Rattle.idl_grammar.specs.Trees.{IsFile, IsItemBody, IsMemberBody}
+use Rattle.idl_grammar.specs.Trees.{IsItemBody, IsMemberBody}
 use Rattle.idl_grammar.proofs.TreeMade.{tree-made}
 use Rattle.idl_meaning.specs.Counted.{IsCountedMember, AreCountedMembers, IsCountedItem, AreCountedItems, AreCountedFiles, AreLawfulFiles}
 

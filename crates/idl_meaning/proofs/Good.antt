@@ -1,20 +1,15 @@
 -- What is kept from declaration to declaration: each name is bound to what it should be, and each interface is accepted.
-use Rattle.std.proofs.Common.{◌≡◌, ◌≢◌, ℕ, zero, suc, ◌+◌, ◌<◌, ◌≤◌, Bool, true, false, ◌==◌, ◌⊎◌, inl, inr, List, [], ◌∷◌, ◌++◌, length, Option, Some, None, refl, sym, ap, ◌∙◌, arith, subst, if◌then◌else◌}
-use Rattle.std.specs.Prelude.{slice_get, slice_set, is_some, IsSomeAnd, IsTrue, IsFalse}
+use Rattle.std.proofs.Common.{◌≡◌, ℕ, zero, suc, ◌<◌, ◌≤◌, Bool, true, false, ◌⊎◌, inl, inr, List, [], ◌∷◌, ◌++◌, length, Option, Some, None, refl, sym, ap, ◌∙◌, arith, subst, if◌then◌else◌}
+use Rattle.std.specs.Prelude.{slice_get, slice_set, IsSomeAnd, IsTrue}
 use Rattle.std.specs.Str.{bytes_eq}
 use Rattle.std.proofs.lemmas.Slice.Eq.{bytes_eq-Decides}
 use Rattle.std.proofs.lemmas.Option.{slice_get_within}
-use Rattle.idl_grammar.specs.declared.tree.ClosedFile.{ClosedFile}
-use Rattle.idl_grammar.specs.declared.tree.Interface.{Interface}
-use Rattle.idl_grammar.specs.declared.tree.Item.{Item}
-use Rattle.idl_grammar.specs.declared.tree.ItemBody.{ItemBody}
-use Rattle.idl_grammar.specs.declared.tree.ItemBody.TheVariants as item
 use Rattle.idl_meaning.specs.declared.scope.Meant.{Meant}
 use Rattle.idl_meaning.specs.declared.scope.Meant.TheVariants as meant
 use Rattle.idl_meaning.specs.declared.scope.ScopeIface.{ScopeIface}
 use Rattle.idl_meaning.specs.Meaning.{Names, Bound, Typed, Forward, Defined, learns, meaning_of}
 use Rattle.idl_meaning.specs.Scopes.{number_or_next}
-use Rattle.idl_meaning.specs.Accepted.{IsMeant, AreAcceptedMembers, IsAcceptedIface}
+use Rattle.idl_meaning.specs.Accepted.{IsMeant, IsAcceptedIface}
 use Rattle.idl_meaning.proofs.Methods.{AreMeant}
 use Rattle.idl_meaning.proofs.Members.{meant-weaker, members-weaker}
 
@@ -134,18 +129,18 @@ pub good-typed : (names : Names) (ifaces : List ScopeIface) (name : List ℕ) (m
     → IsGood (learns names name (Some (Typed m))) ifaces
 good-typed names ifaces name m good none ok = record {
   meanings = λ n b.
-    learned (λ o. o ≡ Some b → IsMeant (length ifaces) (meaning_of b)) names name (Some (Typed m)) n
-    (λ here e. let same : Typed m ≡ b = cc in subst (λ (c : Bound). IsMeant (length ifaces) (meaning_of c)) same ok)
-    (good.meanings n b);
+      learned (λ o. o ≡ Some b → IsMeant (length ifaces) (meaning_of b)) names name (Some (Typed m)) n
+      (λ here e. let same : Typed m ≡ b = cc in subst (λ (c : Bound). IsMeant (length ifaces) (meaning_of c)) same ok)
+      (good.meanings n b);
   each = good.each;
   numbered = λ k i e.
-    learned (λ o. as_iface o ≡ Some k) names name (Some (Typed m)) i.name
-    (λ here. absurd (let was = good.numbered k i e in let nothing_there : names i.name ≡ None = subst (λ (n : List ℕ). names n ≡ None) here none in clash (names i.name) k nothing_there was))
-    (good.numbered k i e);
+      learned (λ o. as_iface o ≡ Some k) names name (Some (Typed m)) i.name
+      (λ here. absurd (let was = good.numbered k i e in let nothing_there : names i.name ≡ None = subst (λ (n : List ℕ). names n ≡ None) here none in clash (names i.name) k nothing_there was))
+      (good.numbered k i e);
   defined_there = λ n number rank.
-    learned (λ o. o ≡ Some (Defined number rank) → IsDefinedAt ifaces number) names name (Some (Typed m)) n
-    (λ here e. absurd cc)
-    (good.defined_there n number rank);
+      learned (λ o. o ≡ Some (Defined number rank) → IsDefinedAt ifaces number) names name (Some (Typed m)) n
+      (λ here e. absurd cc)
+      (good.defined_there n number rank);
 } where
   clash : (o : Option Bound) (k : ℕ) → o ≡ None → as_iface o ≡ Some k → ⊥
   clash None k e h = absurd cc
@@ -164,12 +159,12 @@ pub defined-kept : (old new : List ScopeIface) (number : ℕ) (x : ScopeIface) �
 defined-kept old new number x placed marks k h =
     let r = some-and (λ q. IsTrue q.defined) (slice_get old k) h in
     go r.0 r.1 r.2 (placed.kept k r.0 r.1) where
-  go : (q : ScopeIface) → slice_get old k ≡ Some q → IsTrue q.defined → (k ≡ number) ⊎ (slice_get new k ≡ Some q) → IsDefinedAt new k
-  go q at is (inl same) = at_number marks where
-    at_number : (slice_get old number ≡ None) ⊎ IsTrue x.defined → IsDefinedAt new k
-    at_number (inl none) = absurd (let there : slice_get old number ≡ Some q = subst (λ (n : ℕ). slice_get old n ≡ Some q) same at in cc)
-    at_number (inr defined) = and-some (λ q. IsTrue q.defined) (slice_get new k) x (ap (slice_get new) same ∙ placed.here) defined
-  go q at is (inr there) = and-some (λ q. IsTrue q.defined) (slice_get new k) q there is
+      go : (q : ScopeIface) → slice_get old k ≡ Some q → IsTrue q.defined → (k ≡ number) ⊎ (slice_get new k ≡ Some q) → IsDefinedAt new k
+      go q at is (inl same) = at_number marks where
+        at_number : (slice_get old number ≡ None) ⊎ IsTrue x.defined → IsDefinedAt new k
+        at_number (inl none) = absurd (let there : slice_get old number ≡ Some q = subst (λ (n : ℕ). slice_get old n ≡ Some q) same at in cc)
+        at_number (inr defined) = and-some (λ q. IsTrue q.defined) (slice_get new k) x (ap (slice_get new) same ∙ placed.here) defined
+      go q at is (inr there) = and-some (λ q. IsTrue q.defined) (slice_get new k) q there is
 
 -- an interface stays accepted
 iface-kept : (old new : List ScopeIface) (number : ℕ) (x : ScopeIface) → Placed old new number x → (slice_get old number ≡ None) ⊎ IsTrue x.defined
@@ -193,9 +188,9 @@ pub meant-placed : (names : Names) (old new : List ScopeIface) (name : List ℕ)
 meant-placed names old new name number b x good placed is n c =
     learned (λ o. o ≡ Some c → IsMeant (length new) (meaning_of c)) names name (Some b) n
     (λ here e.
-      let same : b ≡ c = cc in
-      subst (λ (d : Bound). IsMeant (length new) (meaning_of d)) same
-      (subst (λ (m : Meant). IsMeant (length new) m) (sym is) (slice_get_within new number x placed.here)))
+    let same : b ≡ c = cc in
+    subst (λ (d : Bound). IsMeant (length new) (meaning_of d)) same
+    (subst (λ (m : Meant). IsMeant (length new) m) (sym is) (slice_get_within new number x placed.here)))
     (λ e. meant-weaker (length old) (length new) placed.grows (meaning_of c) (good n c e))
 
 -- an interface that is declared
@@ -208,16 +203,17 @@ good-placed names old new name number b x good placed next named is same_number 
   each = λ k i e. each_of k i (placed.from k i e);
   numbered = λ k i e. numbered_of k i (placed.from k i e);
   defined_there = λ n at rank.
-    learned (λ o. o ≡ Some (Defined at rank) → IsDefinedAt new at) names name (Some b) n
-    (λ here e.
+      learned (λ o. o ≡ Some (Defined at rank) → IsDefinedAt new at) names name (Some b) n
+      (λ here e.
       let same : b ≡ Defined at rank = cc in
       let where_it_is : number ≡ at = let h : as_iface (Some (Defined at rank)) ≡ Some number = subst (λ (c : Bound). as_iface (Some c) ≡ Some number) same same_number in cc in
       subst (λ (j : ℕ). IsDefinedAt new j) where_it_is (and-some (λ q. IsTrue q.defined) (slice_get new number) x placed.here (defines at rank same)))
-    (λ e. defined-kept old new number x placed marks at (good.defined_there n at rank e));
+      (λ e. defined-kept old new number x placed marks at (good.defined_there n at rank e));
 } where
   each_of : (k : ℕ) (i : ScopeIface) → ((k ≡ number) × (x ≡ i)) ⊎ (slice_get old k ≡ Some i) → IsAcceptedIface new i
   each_of k i (inl h) = subst (λ (j : ScopeIface). IsAcceptedIface new j) h.1 ok
   each_of k i (inr h) = iface-kept old new number x placed marks i (good.each k i h)
+
   numbered_of : (k : ℕ) (i : ScopeIface) → ((k ≡ number) × (x ≡ i)) ⊎ (slice_get old k ≡ Some i) → as_iface (learns names name (Some b) i.name) ≡ Some k
   numbered_of k i (inl h) =
       let own : i.name ≡ name = sym (ap (λ (j : ScopeIface). j.name) h.1) ∙ named in
@@ -226,5 +222,5 @@ good-placed names old new name number b x good placed next named is same_number 
       let was : as_iface (names i.name) ≡ Some k = good.numbered k i h in
       learned (λ o. as_iface o ≡ Some k) names name (Some b) i.name
       (λ here.
-        same_number ∙ ap Some (next ∙ number-is (names name) (length old) k (subst (λ (n : List ℕ). as_iface (names n) ≡ Some k) (sym here) was)))
+      same_number ∙ ap Some (next ∙ number-is (names name) (length old) k (subst (λ (n : List ℕ). as_iface (names n) ≡ Some k) (sym here) was)))
       was

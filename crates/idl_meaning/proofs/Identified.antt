@@ -1,5 +1,5 @@
 -- No two interfaces that are defined have one identifier.
-use Rattle.std.proofs.Common.{◌≡◌, ℕ, zero, suc, Bool, true, false, ◌⊎◌, inl, inr, List, [], ◌∷◌, ◌++◌, length, Option, Some, None, refl, sym, ap, ◌∙◌, subst, if◌then◌else◌, option_and_then}
+use Rattle.std.proofs.Common.{◌≡◌, ℕ, suc, Bool, true, false, ◌⊎◌, inl, inr, List, [], ◌∷◌, ◌++◌, length, Option, Some, None, refl, sym, ap, ◌∙◌, subst, if◌then◌else◌, option_and_then}
 use Rattle.std.specs.Prelude.{slice_get, is_some, is_none, IsTrue}
 use Rattle.idl_grammar.specs.declared.tree.ClosedFile.{ClosedFile}
 use Rattle.idl_grammar.specs.declared.tree.Interface.{Interface}
@@ -14,7 +14,7 @@ use Rattle.idl_meaning.specs.Faults.{Declaration, conditions, codes_at, faults_w
 use Rattle.idl_meaning.specs.Accepted.{AreIdentifiedOnce}
 use Rattle.idl_meaning.proofs.Methods.{fails}
 use Rattle.idl_meaning.proofs.Members.{nil_left, nil_right, no_codes}
-use Rattle.idl_meaning.proofs.Good.{Placed, placed-last, IsGood, learned, learned-here}
+use Rattle.idl_meaning.proofs.Good.{Placed, placed-last, learned, learned-here}
 use Rattle.idl_meaning.proofs.AcceptedScope.{IsGoodAt, goes-by, item-good, items-good, nothing-good}
 
 -- each interface that is defined has used its identifier, and no two have one
@@ -51,11 +51,14 @@ new-identified iids old new number x iid good placed own fresh = record {
       let mine : i.iid ≡ iid = sym (ap (λ (y : ScopeIface). y.iid) h.1) ∙ own in
       ap (λ (n : List ℕ). is_some (learns iids iid (Some tt) n)) mine ∙ ap is_some (learned-here iids iid (Some tt))
   used k i (inr h) defined = learned (λ o. is_some o ≡ true) iids iid (Some tt) i.iid (λ here. refl) (good.each k i h defined)
+
   clash : (b : Bool) → b ≡ false → b ≡ true → ⊥
   clash true e f = absurd cc
   clash false e f = absurd cc
+
   taken : (k : ℕ) (i : ScopeIface) → slice_get old k ≡ Some i → IsTrue i.defined → i.iid ≡ iid → ⊥
   taken k i h defined same = clash (is_some (iids iid)) fresh (subst (λ (n : List ℕ). is_some (iids n) ≡ true) same (good.each k i h defined))
+
   differ : (j k : ℕ) (a b : ScopeIface) → ((j ≡ number) × (x ≡ a)) ⊎ (slice_get old j ≡ Some a) → ((k ≡ number) × (x ≡ b)) ⊎ (slice_get old k ≡ Some b)
       → IsTrue a.defined → IsTrue b.defined → a.iid ≡ b.iid → j ≡ k
   differ j k a b (inl h) (inl g) one two same = h.0 ∙ sym g.0
@@ -76,12 +79,12 @@ interface-identified : (file decl : ℕ) (k : Known) (i : Interface) → IsGoodA
 interface-identified file decl k i good identified none =
     let silent = fails conditions 1 (Declaration k (item.Interface i)) none in
     go (uuid_of i.attrs) (silent 3) (silent 4) where
-  go : (o : Option (List ℕ)) → is_none o ≡ false → is_some (option_and_then k.iids o) ≡ false
-      → IsIdentified (used_iid k.iids o)
-        (placed k.ifaces (next_number k i.name) (record (iface_made file decl i (defined_number (parent_bound k.names i.parent)) (members_made 1 (inside k i) i.members)) { iid = iid_or_zero o }))
-  go None four five = absurd cc
-  go (Some iid) four five =
-      new-identified k.iids k.ifaces _ (next_number k i.name) _ iid identified (goes-by k.ifaces _ (k.names i.name) (good.meanings i.name)) refl five
+      go : (o : Option (List ℕ)) → is_none o ≡ false → is_some (option_and_then k.iids o) ≡ false
+          → IsIdentified (used_iid k.iids o)
+          (placed k.ifaces (next_number k i.name) (record (iface_made file decl i (defined_number (parent_bound k.names i.parent)) (members_made 1 (inside k i) i.members)) { iid = iid_or_zero o }))
+      go None four five = absurd cc
+      go (Some iid) four five =
+          new-identified k.iids k.ifaces _ (next_number k i.name) _ iid identified (goes-by k.ifaces _ (k.names i.name) (good.meanings i.name)) refl five
 
 new-one : (file decl : ℕ) (k : Known) (d : ItemBody) → IsGoodAt k → IsIdentifiedAt k → codes_at (Declaration k d) ≡ [] → IsIdentifiedAt (after_new file decl k d)
 new-one file decl k (item.Include name) good identified none = identified

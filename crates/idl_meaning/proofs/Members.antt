@@ -1,6 +1,6 @@
 -- The members of an interface without faults, and that more interfaces make no difference to them.
-use Rattle.std.proofs.Common.{◌≡◌, ℕ, zero, suc, ◌+◌, ◌<◌, ◌≤◌, Bool, true, false, List, [], ◌∷◌, ◌++◌, length, Option, Some, None, refl, sym, ap, ◌∙◌, arith, subst, if◌then◌else◌, ℤ}
-use Rattle.std.specs.Prelude.{slice_get, IsTrue}
+use Rattle.std.proofs.Common.{◌≡◌, ℕ, zero, suc, ◌≤◌, Bool, true, false, List, [], ◌∷◌, ◌++◌, Option, Some, None, refl, ap, arith, subst, if◌then◌else◌, ℤ}
+use Rattle.std.specs.Prelude.{slice_get}
 use Rattle.std.specs.List.{cons_option}
 use Rattle.xp_base.specs.declared.kinds.ConstKind.{ConstKind}
 use Rattle.idl_grammar.specs.declared.tree.Member.{Member}
@@ -12,11 +12,11 @@ use Rattle.idl_meaning.specs.declared.scope.ScopeBody.{ScopeBody}
 use Rattle.idl_meaning.specs.declared.scope.ScopeBody.TheVariants as body
 use Rattle.idl_meaning.specs.declared.scope.ScopeMember.{ScopeMember}
 use Rattle.idl_meaning.specs.declared.scope.ScopeParam.{ScopeParam}
-use Rattle.idl_meaning.specs.Meaning.{Names, sense}
+use Rattle.idl_meaning.specs.Meaning.{sense}
 use Rattle.idl_meaning.specs.Constants.{in_range, kind_by, value_of}
 use Rattle.idl_meaning.specs.Scopes.{Inside, inside_after, visible, constant_made, body_made, member_name, member_made, members_made}
-use Rattle.idl_meaning.specs.Faults.{Within, conditions, codes_at, Fault, faults_with, member_faults}
-use Rattle.idl_meaning.specs.Accepted.{IsMeant, IsResult, IsAcceptedParam, IsAcceptedMethod, IsAcceptedBody, AreAcceptedMembers}
+use Rattle.idl_meaning.specs.Faults.{Within, conditions, codes_at, faults_with, member_faults}
+use Rattle.idl_meaning.specs.Accepted.{IsMeant, IsResult, IsAcceptedParam, IsAcceptedBody, AreAcceptedMembers}
 use Rattle.idl_meaning.proofs.Methods.{AreMeant, stands-meant, method-accepted, fails, or_right}
 
 -- ---- lists without faults
@@ -81,15 +81,15 @@ pub members-accepted : (ms : List Member) (count file decl number : ℕ) (at : I
 members-accepted [] count file decl number at good none = λ k m e. nothing-in k m e
 members-accepted (x ∷ ms) count file decl number at good none =
     λ k m e.
-      made-cases (member_made (member_name x.body) number (body_made at x.body)) (members_made (suc number) (inside_after at x.body) ms) k m
-      (λ (y : ScopeMember). IsAcceptedBody count y.body)
-      (λ y is.
-        body-accepted count at good x.body y.body
-        (no_codes file decl number (codes_at (Within at x.body)) (nil_left (faults_with file decl number (codes_at (Within at x.body))) (member_faults file decl (suc number) (inside_after at x.body) ms) none))
-        (member-of (member_name x.body) number (body_made at x.body) y is))
-      (members-accepted ms count file decl (suc number) (inside_after at x.body) good
-      (nil_right (faults_with file decl number (codes_at (Within at x.body))) (member_faults file decl (suc number) (inside_after at x.body) ms) none))
-      e
+    made-cases (member_made (member_name x.body) number (body_made at x.body)) (members_made (suc number) (inside_after at x.body) ms) k m
+    (λ (y : ScopeMember). IsAcceptedBody count y.body)
+    (λ y is.
+    body-accepted count at good x.body y.body
+    (no_codes file decl number (codes_at (Within at x.body)) (nil_left (faults_with file decl number (codes_at (Within at x.body))) (member_faults file decl (suc number) (inside_after at x.body) ms) none))
+    (member-of (member_name x.body) number (body_made at x.body) y is))
+    (members-accepted ms count file decl (suc number) (inside_after at x.body) good
+    (nil_right (faults_with file decl number (codes_at (Within at x.body))) (member_faults file decl (suc number) (inside_after at x.body) ms) none))
+    e
 
 -- ---- more interfaces
 

@@ -1,6 +1,6 @@
 -- The list of faults has exactly the faults: at each level what is in the list holds at its place (`sound`), and what
 -- holds at a place is in the list (`full`).
-use Rattle.std.proofs.Common.{◌≡◌, ℕ, zero, suc, ◌+◌, ◌<◌, Bool, true, false, ◌⊎◌, inl, inr, List, [], ◌∷◌, ◌++◌, Option, Some, None, take, refl, sym, ap, ◌∙◌, arith, subst, option_map, option_and_then}
+use Rattle.std.proofs.Common.{◌≡◌, ℕ, zero, suc, Bool, true, false, ◌⊎◌, inl, inr, List, [], ◌∷◌, Option, take, refl, sym, ap, ◌∙◌, subst, option_map, option_and_then}
 use Rattle.std.specs.Prelude.{slice_get, IsSomeAnd, IsTrue}
 use Rattle.idl_grammar.specs.declared.tree.ClosedFile.{ClosedFile}
 use Rattle.idl_grammar.specs.declared.tree.Item.{Item}
@@ -81,14 +81,14 @@ members-sound [] file decl number at q h = absurd h
 members-sound (m ∷ ms) file decl number at q h =
     go (members-sound ms file decl (suc number) (inside_after at m.body) q)
     (among_cases q (faults_with file decl number (codes_at (Within at m.body))) (member_faults file decl (suc number) (inside_after at m.body) ms) h) where
-  go : (Among q (member_faults file decl (suc number) (inside_after at m.body) ms)
-      → (n : ℕ) × (q.file ≡ file) × (q.decl ≡ decl) × (q.member ≡ later n (suc number)) × HoldsAt q.code (member_place (inside_after at m.body) ms n))
-      → Among q (faults_with file decl number (codes_at (Within at m.body))) ⊎ Among q (member_faults file decl (suc number) (inside_after at m.body) ms)
-      → (n : ℕ) × (q.file ≡ file) × (q.decl ≡ decl) × (q.member ≡ later n number) × HoldsAt q.code (member_place at (m ∷ ms) n)
-  go up (inl here) =
-      let r = with-sound file decl number (codes_at (Within at m.body)) q here in
-      (zero, r.0, r.1, r.2, holds-sound (Within at m.body) q.code r.3)
-  go up (inr there) = let r = up there in (suc r.0, r.1, r.2, r.3, r.4)
+      go : (Among q (member_faults file decl (suc number) (inside_after at m.body) ms)
+          → (n : ℕ) × (q.file ≡ file) × (q.decl ≡ decl) × (q.member ≡ later n (suc number)) × HoldsAt q.code (member_place (inside_after at m.body) ms n))
+          → Among q (faults_with file decl number (codes_at (Within at m.body))) ⊎ Among q (member_faults file decl (suc number) (inside_after at m.body) ms)
+          → (n : ℕ) × (q.file ≡ file) × (q.decl ≡ decl) × (q.member ≡ later n number) × HoldsAt q.code (member_place at (m ∷ ms) n)
+      go up (inl here) =
+          let r = with-sound file decl number (codes_at (Within at m.body)) q here in
+          (zero, r.0, r.1, r.2, holds-sound (Within at m.body) q.code r.3)
+      go up (inr there) = let r = up there in (suc r.0, r.1, r.2, r.3, r.4)
 
 members-full : (ms : List Member) (file decl number : ℕ) (at : Inside) (c n : ℕ) → HoldsAt c (member_place at ms n)
     → Among (fault c file decl (later n number)) (member_faults file decl number at ms)
@@ -152,12 +152,12 @@ items-sound [] file decl k q h = absurd h
 items-sound (x ∷ items) file decl k q h =
     go (items-sound items file (suc decl) (after file decl k x.body) q)
     (among_cases q (item_faults file decl k x.body) (file_faults file (suc decl) (after file decl k x.body) items) h) where
-  go : (Among q (file_faults file (suc decl) (after file decl k x.body) items)
-      → (n : ℕ) × (q.file ≡ file) × (q.decl ≡ later n (suc decl)) × HoldsAt q.code (item_place file (suc decl) (after file decl k x.body) items n q.member))
-      → Among q (item_faults file decl k x.body) ⊎ Among q (file_faults file (suc decl) (after file decl k x.body) items)
-      → (n : ℕ) × (q.file ≡ file) × (q.decl ≡ later n decl) × HoldsAt q.code (item_place file decl k (x ∷ items) n q.member)
-  go up (inl here) = let r = item-sound file decl k x.body q here in (zero, r.0, r.1, r.2)
-  go up (inr there) = let r = up there in (suc r.0, r.1, r.2, r.3)
+      go : (Among q (file_faults file (suc decl) (after file decl k x.body) items)
+          → (n : ℕ) × (q.file ≡ file) × (q.decl ≡ later n (suc decl)) × HoldsAt q.code (item_place file (suc decl) (after file decl k x.body) items n q.member))
+          → Among q (item_faults file decl k x.body) ⊎ Among q (file_faults file (suc decl) (after file decl k x.body) items)
+          → (n : ℕ) × (q.file ≡ file) × (q.decl ≡ later n decl) × HoldsAt q.code (item_place file decl k (x ∷ items) n q.member)
+      go up (inl here) = let r = item-sound file decl k x.body q here in (zero, r.0, r.1, r.2)
+      go up (inr there) = let r = up there in (suc r.0, r.1, r.2, r.3)
 
 items-full : (items : List Item) (file decl : ℕ) (k : Known) (c n number : ℕ) → HoldsAt c (item_place file decl k items n number)
     → Among (fault c file (later n decl) number) (file_faults file decl k items)
@@ -182,14 +182,14 @@ files-sound [] file k q h = absurd h
 files-sound (f ∷ files) file k q h =
     go (files-sound files (suc file) (after_items file 0 k f.file.items) q)
     (among_cases q (file_faults file 0 k f.file.items) (faults_from (suc file) (after_items file 0 k f.file.items) files) h) where
-  go : (Among q (faults_from (suc file) (after_items file 0 k f.file.items) files)
-      → (n : ℕ) × (q.file ≡ later n (suc file)) × HoldsAt q.code (file_place (suc file) (after_items file 0 k f.file.items) files n q.decl q.member))
-      → Among q (file_faults file 0 k f.file.items) ⊎ Among q (faults_from (suc file) (after_items file 0 k f.file.items) files)
-      → (n : ℕ) × (q.file ≡ later n file) × HoldsAt q.code (file_place file k (f ∷ files) n q.decl q.member)
-  go up (inl here) =
-      let r = items-sound f.file.items file 0 k q here in
-      (zero, r.1, subst (λ (j : ℕ). HoldsAt q.code (item_place file 0 k f.file.items j q.member)) (sym (r.2 ∙ later-from_zero r.0)) r.3)
-  go up (inr there) = let r = up there in (suc r.0, r.1, r.2)
+      go : (Among q (faults_from (suc file) (after_items file 0 k f.file.items) files)
+          → (n : ℕ) × (q.file ≡ later n (suc file)) × HoldsAt q.code (file_place (suc file) (after_items file 0 k f.file.items) files n q.decl q.member))
+          → Among q (file_faults file 0 k f.file.items) ⊎ Among q (faults_from (suc file) (after_items file 0 k f.file.items) files)
+          → (n : ℕ) × (q.file ≡ later n file) × HoldsAt q.code (file_place file k (f ∷ files) n q.decl q.member)
+      go up (inl here) =
+          let r = items-sound f.file.items file 0 k q here in
+          (zero, r.1, subst (λ (j : ℕ). HoldsAt q.code (item_place file 0 k f.file.items j q.member)) (sym (r.2 ∙ later-from_zero r.0)) r.3)
+      go up (inr there) = let r = up there in (suc r.0, r.1, r.2)
 
 files-full : (files : List ClosedFile) (file : ℕ) (k : Known) (c n decl number : ℕ) → HoldsAt c (file_place file k files n decl number)
     → Among (fault c (later n file) decl number) (faults_from file k files)

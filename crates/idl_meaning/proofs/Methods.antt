@@ -1,6 +1,6 @@
 -- The parameters of a method without faults.
-use Rattle.std.proofs.Common.{◌≡◌, ℕ, zero, suc, ◌+◌, ◌<◌, Bool, true, false, not, ◌&&◌, ◌||◌, ◌⊎◌, inl, inr, List, [], ◌∷◌, ◌++◌, length, Option, Some, None, refl, sym, ap, ◌∙◌, arith, subst, if◌then◌else◌, option_map, option_and_then, find}
-use Rattle.std.specs.Prelude.{slice_get, IsSomeAnd, IsTrue, IsFalse, is_some, is_none, codes}
+use Rattle.std.proofs.Common.{◌≡◌, ℕ, zero, suc, Bool, true, false, not, ◌&&◌, ◌||◌, List, [], ◌∷◌, ◌++◌, length, Option, Some, None, refl, sym, ap, ◌∙◌, subst, if◌then◌else◌, option_and_then, find}
+use Rattle.std.specs.Prelude.{slice_get, IsSomeAnd, IsTrue, IsFalse, is_some, is_none}
 use Rattle.std.specs.List.{list_any}
 use Rattle.std.specs.Str.{bytes_eq}
 use Rattle.xp_base.specs.declared.kinds.Dir.{Dir}
@@ -10,7 +10,6 @@ use Rattle.idl_grammar.specs.declared.tree.TypeName.{TypeName}
 use Rattle.idl_grammar.specs.declared.tree.TypeName.TheVariants as type
 use Rattle.idl_meaning.specs.declared.scope.Meant.{Meant}
 use Rattle.idl_meaning.specs.declared.scope.ScopeParam.{ScopeParam}
-use Rattle.idl_meaning.specs.Attributes.{has, word_of}
 use Rattle.idl_meaning.specs.Meaning.{Names, Bound, meaning_of, bound_sense, is_iid_ref, Sense, Unknown, Nothing, Means, sense, is_unknown, is_a, is_no, is_integer, is_iid, is_class}
 use Rattle.idl_meaning.specs.Scopes.{number_from, number_in, stands_for, result_of, param_made, params_made}
 use Rattle.idl_meaning.specs.Faults.{Place, numbered, when, applied, is_misnamed, is_array, size_name, length_name, iid_name, is_named, param_of, is_no_param, is_wrong_count, is_wrong_iid, is_mismeasured, is_wrong_array, is_retval, is_out, is_empty, any_wrong_retval, is_void_name}
@@ -206,8 +205,7 @@ retval-right gives (q ∷ more) zero p e at h =
     let same : q ≡ p = cc in
     let mine : (is_retval q && (gives || not (is_out q.dir) || not (is_empty more))) ≡ false = or_left _ (any_wrong_retval gives more) e in
     let three = and_false (is_retval q) (gives || not (is_out q.dir) || not (is_empty more)) mine (subst (λ (x : ParamDecl). is_retval x ≡ true) (sym same) h) in
-    let two = or_left (gives || not (is_out q.dir)) (not (is_empty more)) three in
-    (
+    let two = or_left (gives || not (is_out q.dir)) (not (is_empty more)) three in (
       or_left gives (not (is_out q.dir)) two,
       subst (λ (x : ParamDecl). is_out x.dir ≡ true) same (not_false (is_out q.dir) (or_right gives (not (is_out q.dir)) two)),
       empty-length more (not_false (is_empty more) (or_right (gives || not (is_out q.dir)) (not (is_empty more)) three)),
@@ -242,20 +240,20 @@ module _ (count : ℕ) (names : Names) (good : AreMeant count names) (ps : List 
         sized = points is_integer names ps known (size_name p) size;
         measured = points is_integer names ps known (length_name p) measure;
         beside_size = λ h.
-          has-number is_integer names ps known (size_name p) size
-          (not_false (is_some (size_name p)) (and_false (is_some (length_name p)) (is_none (size_name p)) beside (number-named (number_in ps) (length_name p) h)));
+            has-number is_integer names ps known (size_name p) size
+            (not_false (is_some (size_name p)) (and_false (is_some (length_name p)) (is_none (size_name p)) beside (number-named (number_in ps) (length_name p) h)));
         identified = points is_iid names ps known (iid_name p) identify;
         array_sized = λ h.
-          has-number is_integer names ps known (size_name p) size
-          (not_false (is_some (size_name p))
-          (or_left (is_none (size_name p)) (is_a is_class (sense names p.of))
-          (or_left (is_none (size_name p) || is_a is_class (sense names p.of)) (is_a is_iid_ref (sense names p.of))
-          (and_false (is_array p) (is_none (size_name p) || is_a is_class (sense names p.of) || is_a is_iid_ref (sense names p.of)) e9 h))));
+            has-number is_integer names ps known (size_name p) size
+            (not_false (is_some (size_name p))
+            (or_left (is_none (size_name p)) (is_a is_class (sense names p.of))
+            (or_left (is_none (size_name p) || is_a is_class (sense names p.of)) (is_a is_iid_ref (sense names p.of))
+            (and_false (is_array p) (is_none (size_name p) || is_a is_class (sense names p.of) || is_a is_iid_ref (sense names p.of)) e9 h))));
         array_plain = λ h.
-          class-no (sense names p.of)
-          (or_right (is_none (size_name p)) (is_a is_class (sense names p.of))
-          (or_left (is_none (size_name p) || is_a is_class (sense names p.of)) (is_a is_iid_ref (sense names p.of))
-          (and_false (is_array p) (is_none (size_name p) || is_a is_class (sense names p.of) || is_a is_iid_ref (sense names p.of)) e9 h)));
+            class-no (sense names p.of)
+            (or_right (is_none (size_name p)) (is_a is_class (sense names p.of))
+            (or_left (is_none (size_name p) || is_a is_class (sense names p.of)) (is_a is_iid_ref (sense names p.of))
+            (and_false (is_array p) (is_none (size_name p) || is_a is_class (sense names p.of) || is_a is_iid_ref (sense names p.of)) e9 h)));
       }
 
   pub method-accepted : (of : TypeName) → list_any (is_mismeasured names (param_of ps)) ps ≡ false → list_any (is_wrong_array names) ps ≡ false
@@ -265,19 +263,19 @@ module _ (count : ℕ) (names : Names) (good : AreMeant count names) (ps : List 
       record {
         returned = result-meant count names good of;
         each = λ k m at.
-          let r = from k m at in
-          subst (λ (x : ScopeParam). IsAcceptedParam count (params_made names (number_in ps) ps) x) r.2
-          (param-accepted r.0 (none_of (is_mismeasured names (param_of ps)) ps k r.0 e8 r.1) (none_of (is_wrong_array names) ps k r.0 e9 r.1));
+            let r = from k m at in
+            subst (λ (x : ScopeParam). IsAcceptedParam count (params_made names (number_in ps) ps) x) r.2
+            (param-accepted r.0 (none_of (is_mismeasured names (param_of ps)) ps k r.0 e8 r.1) (none_of (is_wrong_array names) ps k r.0 e9 r.1));
         last = λ k m at h.
-          let r = from k m at in
-          (retval-right (not (is_void_name of)) ps k r.0 e12 r.1 (subst (λ (x : ScopeParam). x.retval ≡ true) (sym r.2) h)).2
-          ∙ sym (length-made names (number_in ps) ps);
+            let r = from k m at in
+            (retval-right (not (is_void_name of)) ps k r.0 e12 r.1 (subst (λ (x : ScopeParam). x.retval ≡ true) (sym r.2) h)).2
+            ∙ sym (length-made names (number_in ps) ps);
         outward = λ k m at h.
-          let r = from k m at in
-          subst (λ (x : ScopeParam). x.dir ≡ Outward) r.2
-          (out-is r.0.dir (retval-right (not (is_void_name of)) ps k r.0 e12 r.1 (subst (λ (x : ScopeParam). x.retval ≡ true) (sym r.2) h)).1);
+            let r = from k m at in
+            subst (λ (x : ScopeParam). x.dir ≡ Outward) r.2
+            (out-is r.0.dir (retval-right (not (is_void_name of)) ps k r.0 e12 r.1 (subst (λ (x : ScopeParam). x.retval ≡ true) (sym r.2) h)).1);
         alone = λ k m at h.
-          let r = from k m at in
-          void-gives names of
-          (not_false (is_void_name of) (retval-right (not (is_void_name of)) ps k r.0 e12 r.1 (subst (λ (x : ScopeParam). x.retval ≡ true) (sym r.2) h)).0);
+            let r = from k m at in
+            void-gives names of
+            (not_false (is_void_name of) (retval-right (not (is_void_name of)) ps k r.0 e12 r.1 (subst (λ (x : ScopeParam). x.retval ≡ true) (sym r.2) h)).0);
       }

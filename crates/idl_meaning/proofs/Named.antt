@@ -1,10 +1,8 @@
 -- The names in the scope of lawful files are words of the language.
-use Rattle.std.proofs.Common.{◌≡◌, ℕ, zero, suc, Bool, true, false, ◌==◌, ◌⊎◌, inl, inr, List, [], ◌∷◌, ◌++◌, length, Option, Some, None, refl, sym, ap, ◌∙◌, subst, if◌then◌else◌}
+use Rattle.std.proofs.Common.{◌≡◌, ℕ, suc, Bool, true, false, ◌==◌, ◌⊎◌, inl, inr, List, [], ◌∷◌, ◌++◌, length, Option, Some, None, ap, subst, if◌then◌else◌}
 use Rattle.std.specs.Prelude.{All, slice_get, slice_set, is_some}
-use Rattle.std.specs.List.{cons_option}
 use Rattle.std.proofs.lemmas.List.Elements.{All-head, All-tail}
 use Rattle.idl_grammar.specs.declared.tree.ClosedFile.{ClosedFile}
-use Rattle.idl_grammar.specs.declared.tree.Interface.{Interface}
 use Rattle.idl_grammar.specs.declared.tree.Item.{Item}
 use Rattle.idl_grammar.specs.declared.tree.ItemBody.{ItemBody}
 use Rattle.idl_grammar.specs.declared.tree.ItemBody.TheVariants as item
@@ -19,7 +17,7 @@ use Rattle.idl_meaning.specs.declared.scope.ScopeIface.{ScopeIface}
 use Rattle.idl_meaning.specs.declared.scope.ScopeMember.{ScopeMember}
 use Rattle.idl_meaning.specs.Counted.{AreLawfulFiles}
 use Rattle.idl_meaning.specs.Meaning.{learns, Forward}
-use Rattle.idl_meaning.specs.Scopes.{Known, Inside, nothing_known, next_number, parent_bound, defined_number, inside, inside_after, body_made, member_name, member_made, members_made, iface_made, bare_iface, placed, after_interface, after_forward, after_new, redeclares, after, after_items, after_files}
+use Rattle.idl_meaning.specs.Scopes.{Known, Inside, nothing_known, next_number, inside, inside_after, body_made, member_name, member_made, members_made, bare_iface, placed, after_forward, after_new, redeclares, after, after_items, after_files}
 use Rattle.idl_meaning.specs.Accepted.{IsNamed}
 use Rattle.idl_meaning.proofs.Members.{made-cases}
 use Rattle.idl_meaning.proofs.Good.{last-from, set-from}
@@ -48,12 +46,12 @@ members-named : (most number : ℕ) (at : Inside) (ms : List Member) → All (λ
 members-named most number at [] h = λ k m e. none-there k m e
 members-named most number at (x ∷ ms) h =
     λ k m e.
-      made-cases (member_made (member_name x.body) number (body_made at x.body)) (members_made (suc number) (inside_after at x.body) ms) k m
-      (λ (y : ScopeMember). IsShortText y.name)
-      (λ y is.
-        name-short most x.body y.name (All-head (λ (one : Member). IsMemberBody most one.body) x ms h) (name-of (member_name x.body) number (body_made at x.body) y is))
-      (members-named most (suc number) (inside_after at x.body) ms (All-tail (λ (one : Member). IsMemberBody most one.body) x ms h))
-      e
+    made-cases (member_made (member_name x.body) number (body_made at x.body)) (members_made (suc number) (inside_after at x.body) ms) k m
+    (λ (y : ScopeMember). IsShortText y.name)
+    (λ y is.
+    name-short most x.body y.name (All-head (λ (one : Member). IsMemberBody most one.body) x ms h) (name-of (member_name x.body) number (body_made at x.body) y is))
+    (members-named most (suc number) (inside_after at x.body) ms (All-tail (λ (one : Member). IsMemberBody most one.body) x ms h))
+    e
 
 -- ---- interfaces
 

@@ -1,5 +1,5 @@
 -- The list of faults is in ascending order, so its first is the least.
-use Rattle.std.proofs.Common.{◌≡◌, ℕ, zero, suc, ◌+◌, ◌<◌, Bool, true, false, ◌⊎◌, inl, inr, List, [], ◌∷◌, ◌++◌, Option, Some, None, refl, sym, ap, ◌∙◌, arith, subst}
+use Rattle.std.proofs.Common.{◌≡◌, ℕ, suc, ◌<◌, Bool, true, false, ◌⊎◌, inl, inr, List, [], ◌∷◌, Some, sym, ◌∙◌, arith, subst}
 use Rattle.idl_grammar.specs.declared.tree.ClosedFile.{ClosedFile}
 use Rattle.idl_grammar.specs.declared.tree.Item.{Item}
 use Rattle.idl_grammar.specs.declared.tree.ItemBody.{ItemBody}
@@ -8,9 +8,9 @@ use Rattle.idl_grammar.specs.declared.tree.Member.{Member}
 use Rattle.idl_meaning.specs.declared.idl_error.IdlError.{IdlError}
 use Rattle.idl_meaning.specs.declared.idl_error.IdlError.TheVariants as error
 use Rattle.idl_meaning.specs.Scopes.{Known, Inside, nothing_known, inside, inside_after, after, after_items}
-use Rattle.idl_meaning.specs.Faults.{Place, Declaration, Within, conditions, when, numbered, codes_at, Fault, faults_with, member_faults, inner_faults, item_faults, file_faults, faults_from, faults_of, first, IsFirst, IsFault}
-use Rattle.idl_meaning.specs.Order.{Among, Ascending, Before, HasNoFault, IsLeast, IsLeastFault}
-use Rattle.idl_meaning.proofs.Among.{ascending_append, later, later-is}
+use Rattle.idl_meaning.specs.Faults.{Place, Declaration, Within, conditions, when, numbered, codes_at, Fault, faults_with, member_faults, inner_faults, item_faults, file_faults, faults_from, faults_of, first, IsFirst}
+use Rattle.idl_meaning.specs.Order.{Among, Ascending, Before, HasNoFault, IsLeastFault}
+use Rattle.idl_meaning.proofs.Among.{ascending_append, later-is}
 use Rattle.idl_meaning.proofs.Membership.{codes-sound, with-sound, members-sound, item-sound, items-sound, files-sound, fault, exact}
 
 -- ---- codes
@@ -29,18 +29,18 @@ codes-ascending [] code p = tt
 codes-ascending (t ∷ more) code p =
     ascending_append (λ (m n : ℕ). m < n) (when (t p) code) (numbered (suc code) more p)
     (λ x y h k.
-      let here = when-is (t p) code x h in
-      let there = codes-sound more (suc code) p y k in
-      let far = later-is there.0 (suc code) in
-      omega (arith, here, there.1, far))
+    let here = when-is (t p) code x h in
+    let there = codes-sound more (suc code) p y k in
+    let far = later-is there.0 (suc code) in
+    omega (arith, here, there.1, far))
     (when-ascending (t p) code) (codes-ascending more (suc code) p)
 
 with-ascending : (file decl number : ℕ) (cs : List ℕ) → Ascending (λ (m n : ℕ). m < n) cs → Ascending Before (faults_with file decl number cs)
 with-ascending file decl number [] h = tt
 with-ascending file decl number (c ∷ more) h = (
   λ y k.
-    let r = with-sound file decl number more y k in
-    inr (sym r.0, inr (sym r.1, inr (sym r.2, h.0 y.code r.3))),
+      let r = with-sound file decl number more y k in
+      inr (sym r.0, inr (sym r.1, inr (sym r.2, h.0 y.code r.3))),
   with-ascending file decl number more h.1,
 )
 
@@ -51,10 +51,10 @@ members-ascending [] file decl number at = tt
 members-ascending (m ∷ ms) file decl number at =
     ascending_append Before (faults_with file decl number (codes_at (Within at m.body))) (member_faults file decl (suc number) (inside_after at m.body) ms)
     (λ x y h k.
-      let here = with-sound file decl number (codes_at (Within at m.body)) x h in
-      let there = members-sound ms file decl (suc number) (inside_after at m.body) y k in
-      let far = later-is there.0 (suc number) in
-      inr (here.0 ∙ sym there.1, inr (here.1 ∙ sym there.2, inl (let a = here.2 in let b = there.3 in omega (arith, a, b, far)))))
+    let here = with-sound file decl number (codes_at (Within at m.body)) x h in
+    let there = members-sound ms file decl (suc number) (inside_after at m.body) y k in
+    let far = later-is there.0 (suc number) in
+    inr (here.0 ∙ sym there.1, inr (here.1 ∙ sym there.2, inl (let a = here.2 in let b = there.3 in omega (arith, a, b, far)))))
     (with-ascending file decl number (codes_at (Within at m.body)) (codes-ascending conditions 1 (Within at m.body)))
     (members-ascending ms file decl (suc number) (inside_after at m.body))
 
@@ -85,9 +85,9 @@ item-ascending : (file decl : ℕ) (k : Known) (d : ItemBody) → Ascending Befo
 item-ascending file decl k d =
     ascending_append Before (faults_with file decl 0 (codes_at (Declaration k d))) (inner_faults file decl k d)
     (λ x y h g.
-      let here = with-sound file decl 0 (codes_at (Declaration k d)) x h in
-      let there = inner-later file decl k d y g in
-      inr (here.0 ∙ sym there.0, inr (here.1 ∙ sym there.1, inl (let a = here.2 in let b = there.2 in omega (arith, a, b)))))
+    let here = with-sound file decl 0 (codes_at (Declaration k d)) x h in
+    let there = inner-later file decl k d y g in
+    inr (here.0 ∙ sym there.0, inr (here.1 ∙ sym there.1, inl (let a = here.2 in let b = there.2 in omega (arith, a, b)))))
     (with-ascending file decl 0 (codes_at (Declaration k d)) (codes-ascending conditions 1 (Declaration k d)))
     (inner-ascending file decl k d)
 
@@ -98,10 +98,10 @@ items-ascending [] file decl k = tt
 items-ascending (x ∷ items) file decl k =
     ascending_append Before (item_faults file decl k x.body) (file_faults file (suc decl) (after file decl k x.body) items)
     (λ p q h g.
-      let here = item-sound file decl k x.body p h in
-      let there = items-sound items file (suc decl) (after file decl k x.body) q g in
-      let far = later-is there.0 (suc decl) in
-      inr (here.0 ∙ sym there.1, inl (let a = here.1 in let b = there.2 in omega (arith, a, b, far))))
+    let here = item-sound file decl k x.body p h in
+    let there = items-sound items file (suc decl) (after file decl k x.body) q g in
+    let far = later-is there.0 (suc decl) in
+    inr (here.0 ∙ sym there.1, inl (let a = here.1 in let b = there.2 in omega (arith, a, b, far))))
     (item-ascending file decl k x.body)
     (items-ascending items file (suc decl) (after file decl k x.body))
 
@@ -110,10 +110,10 @@ files-ascending [] file k = tt
 files-ascending (f ∷ files) file k =
     ascending_append Before (file_faults file 0 k f.file.items) (faults_from (suc file) (after_items file 0 k f.file.items) files)
     (λ p q h g.
-      let here = items-sound f.file.items file 0 k p h in
-      let there = files-sound files (suc file) (after_items file 0 k f.file.items) q g in
-      let far = later-is there.0 (suc file) in
-      inl (let a = here.1 in let b = there.1 in omega (arith, a, b, far)))
+    let here = items-sound f.file.items file 0 k p h in
+    let there = files-sound files (suc file) (after_items file 0 k f.file.items) q g in
+    let far = later-is there.0 (suc file) in
+    inl (let a = here.1 in let b = there.1 in omega (arith, a, b, far)))
     (items-ascending f.file.items file 0 k)
     (files-ascending files (suc file) (after_items file 0 k f.file.items))
 

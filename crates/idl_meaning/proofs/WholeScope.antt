@@ -1,5 +1,5 @@
 -- The scope of files without faults is accepted.
-use Rattle.std.proofs.Common.{◌≡◌, ℕ, List, [], Option, Some, sym, subst}
+use Rattle.std.proofs.Common.{◌≡◌, ℕ, List, [], Some, sym, subst}
 use Rattle.std.specs.Prelude.{slice_get}
 use Rattle.idl_grammar.specs.declared.tree.ClosedFile.{ClosedFile}
 use Rattle.idl_meaning.specs.declared.scope.ScopeIface.{ScopeIface}

@@ -1,6 +1,5 @@
 -- What holds of the scope of files without faults.
-use Rattle.std.specs.Prelude.{◌≡◌, ℕ, suc, ◌<◌, Bool, true, false, ◌&&◌, ◌||◌, ◌==◌, List, [], ◌∷◌, length, Option, Some, None, is_some, nat_le, slice_get, IsSomeAnd, IsTrue, IsFalse}
-use Rattle.xp_base.specs.declared.kinds.Dir.{Dir}
+use Rattle.std.specs.Prelude.{◌≡◌, ℕ, suc, ◌<◌, Bool, ◌&&◌, ◌||◌, ◌==◌, List, [], length, Option, Some, None, is_some, nat_le, slice_get, IsSomeAnd, IsTrue, IsFalse}
 use Rattle.xp_base.specs.declared.kinds.Dir.TheVariants.{Outward}
 use Rattle.idl_grammar.specs.Trees.{IsShortText}
 use Rattle.idl_meaning.specs.declared.scope.Meant.{Meant}
@@ -34,13 +33,16 @@ abbrev pub IsResult : ℕ → Option Meant → Type 0
 IsResult count None = Unit {0}
 IsResult count (Some m) = IsMeant count m
 
--- the parameter of the number, where there is a number, is no array and has a type that passes the test
+-- the parameter of the number, where there is a number, is no array and has a type that passes
+-- the test
 abbrev pub Points : (Meant → Bool) → List ScopeParam → Option ℕ → Type 0
 Points test params None = Unit {0}
-Points test params (Some k) = IsSomeAnd (slice_get params k) (λ q. IsTrue (test q.ty) × IsFalse q.array)
+Points test params (Some k) =
+    IsSomeAnd (slice_get params k) (λ q. IsTrue (test q.ty) × IsFalse q.array)
 
--- A parameter: its type, sizes, lengths and identifiers that are given by parameters of the kinds that can give them, a
--- length only beside a size, and an array that has a size and is of no class of strings.
+-- A parameter: its type, sizes, lengths and identifiers that are given by parameters of the kinds
+-- that can give them, a length only beside a size, and an array that has a size and is of no
+-- class of strings.
 pub record IsAcceptedParam (count : ℕ) (params : List ScopeParam) (p : ScopeParam) : Type 0 where
   pub typed : IsMeant count p.ty
   pub sized : Points is_integer params p.size
@@ -50,22 +52,29 @@ pub record IsAcceptedParam (count : ℕ) (params : List ScopeParam) (p : ScopePa
   pub array_sized : IsTrue p.array → IsTrue (is_some p.size)
   pub array_plain : IsTrue p.array → IsFalse (is_class p.ty)
 
--- A method: its parameters; and a `retval` is the last of them, is `out`, and stands where no value is given back.
-pub record IsAcceptedMethod (count : ℕ) (gives : Option Meant) (params : List ScopeParam) : Type 0 where
+-- A method: its parameters; and a `retval` is the last of them, is `out`, and stands where no
+-- value is given back.
+pub record IsAcceptedMethod (count : ℕ) (gives : Option Meant) (params : List ScopeParam)
+    : Type 0 where
   pub returned : IsResult count gives
   pub each : (k : ℕ) (p : ScopeParam) → slice_get params k ≡ Some p → IsAcceptedParam count params p
-  pub last : (k : ℕ) (p : ScopeParam) → slice_get params k ≡ Some p → IsTrue p.retval → suc k ≡ length params
-  pub outward : (k : ℕ) (p : ScopeParam) → slice_get params k ≡ Some p → IsTrue p.retval → p.dir ≡ Outward
-  pub alone : (k : ℕ) (p : ScopeParam) → slice_get params k ≡ Some p → IsTrue p.retval → gives ≡ None
+  pub last : (k : ℕ) (p : ScopeParam) → slice_get params k ≡ Some p → IsTrue p.retval
+      → suc k ≡ length params
+  pub outward : (k : ℕ) (p : ScopeParam) → slice_get params k ≡ Some p → IsTrue p.retval
+      → p.dir ≡ Outward
+  pub alone : (k : ℕ) (p : ScopeParam) → slice_get params k ≡ Some p → IsTrue p.retval
+      → gives ≡ None
 
 -- a member: a constant is in the range of its kind
 abbrev pub IsAcceptedBody : ℕ → ScopeBody → Type 0
 IsAcceptedBody count (body.Constant kind value) = IsTrue (in_range kind value)
 IsAcceptedBody count (body.Attribute hidden notxpcom context readonly ty) = IsMeant count ty
-IsAcceptedBody count (body.Method hidden notxpcom argc context gives params) = IsAcceptedMethod count gives params
+IsAcceptedBody count (body.Method hidden notxpcom argc context gives params) =
+    IsAcceptedMethod count gives params
 
 abbrev pub AreAcceptedMembers : ℕ → List ScopeMember → Type 0
-AreAcceptedMembers count members = (k : ℕ) (m : ScopeMember) → slice_get members k ≡ Some m → IsAcceptedBody count m.body
+AreAcceptedMembers count members =
+    (k : ℕ) (m : ScopeMember) → slice_get members k ≡ Some m → IsAcceptedBody count m.body
 
 -- An interface: its members; its parent is defined; and one that is not defined has neither.
 pub record IsAcceptedIface (ifaces : List ScopeIface) (i : ScopeIface) : Type 0 where
@@ -82,11 +91,14 @@ pub record IsNamed (i : ScopeIface) : Type 0 where
 -- no two interfaces that are defined have one identifier
 abbrev pub AreIdentifiedOnce : List ScopeIface → Type 0
 AreIdentifiedOnce ifaces =
-    (j k : ℕ) (a b : ScopeIface) → slice_get ifaces j ≡ Some a → slice_get ifaces k ≡ Some b → IsTrue a.defined → IsTrue b.defined → a.iid ≡ b.iid → j ≡ k
+    (j k : ℕ) (a b : ScopeIface) → slice_get ifaces j ≡ Some a → slice_get ifaces k ≡ Some b
+    → IsTrue a.defined → IsTrue b.defined → a.iid ≡ b.iid → j ≡ k
 
--- The scope of lawful files without faults: each interface, and no two have one name, or, defined, one identifier.
+-- The scope of lawful files without faults: each interface, and no two have one name, or,
+-- defined, one identifier.
 pub record IsAcceptedScope (s : Scope) : Type 0 where
   pub each : (k : ℕ) (i : ScopeIface) → slice_get s.ifaces k ≡ Some i → IsAcceptedIface s.ifaces i
   pub named : (k : ℕ) (i : ScopeIface) → slice_get s.ifaces k ≡ Some i → IsNamed i
-  pub named_once : (j k : ℕ) (a b : ScopeIface) → slice_get s.ifaces j ≡ Some a → slice_get s.ifaces k ≡ Some b → a.name ≡ b.name → j ≡ k
+  pub named_once : (j k : ℕ) (a b : ScopeIface) → slice_get s.ifaces j ≡ Some a
+      → slice_get s.ifaces k ≡ Some b → a.name ≡ b.name → j ≡ k
   pub identified_once : AreIdentifiedOnce s.ifaces

@@ -1,4 +1,5 @@
--- What attributes say. An attribute has a meaning in its own form alone: `array(x)`, `size_is` and `uuid(foo)` have none.
+-- What attributes say. An attribute has a meaning in its own form alone: `array(x)`, `size_is`
+-- and `uuid(foo)` have none.
 use Rattle.std.specs.Prelude.{ℕ, ◌+◌, Bool, true, false, ◌&&◌, List, [], ◌∷◌, Option, Some, None, codes, if◌then◌else◌}
 use Rattle.std.specs.List.{list_any}
 use Rattle.std.specs.Option.{option_or}
@@ -57,4 +58,6 @@ bit n set = if set then n else 0
 
 -- the bits of an interface in a typelib
 abbrev pub iface_bits : List Attr → ℕ
-iface_bits attrs = bit 128 (has (codes "scriptable") attrs) + bit 64 (has (codes "function") attrs) + bit 32 (has (codes "builtinclass") attrs)
+iface_bits attrs =
+    bit 128 (has (codes "scriptable") attrs) + bit 64 (has (codes "function") attrs)
+    + bit 32 (has (codes "builtinclass") attrs)

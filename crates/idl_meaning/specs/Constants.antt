@@ -1,6 +1,6 @@
--- The value of a constant's expression: over the whole numbers, where each number and each partial result is in the range
--- of 64 bits with a sign.
-use Rattle.std.specs.Prelude.{ℕ, suc, ◌-◌, ◌*◌, ◌/◌, ◌^◌, Bool, true, false, not, List, [], ◌∷◌, Option, Some, None, ℤ, pos, negsuc, ◌+ℤ◌, ◌-ℤ◌, ◌*ℤ◌, bit_or, nat_lt, ◌==◌, option_map, option_and_then, is_some, is_none, slice_index, drop, if◌then◌else◌}
+-- The value of a constant's expression: over the whole numbers, where each number and each
+-- partial result is in the range of 64 bits with a sign.
+use Rattle.std.specs.Prelude.{ℕ, suc, ◌-◌, ◌/◌, ◌^◌, Bool, true, false, not, List, [], ◌∷◌, Option, Some, None, ℤ, pos, negsuc, ◌+ℤ◌, ◌-ℤ◌, ◌*ℤ◌, bit_or, nat_lt, ◌==◌, option_map, option_and_then, is_some, is_none, slice_index, drop, if◌then◌else◌}
 use Rattle.std.specs.Str.Parse.{digits_value}
 use Rattle.xp_base.specs.declared.kinds.ConstKind.{ConstKind}
 use Rattle.xp_base.specs.declared.kinds.ConstKind.TheVariants as kind
@@ -25,7 +25,8 @@ ranged z = if in_64_bits z then Some z else None
 
 -- the number that a spelling writes: hexadecimal digits behind `0x`, or decimal digits
 abbrev pub spelled : List ℕ → ℕ
-spelled text = if slice_index text 1 == 120 then digits_value 16 (drop 2 text) else digits_value 10 text
+spelled text =
+    if slice_index text 1 == 120 then digits_value 16 (drop 2 text) else digits_value 10 text
 
 -- the 64 bits of a number in two's complement, and the number of such bits
 abbrev pub bits_of : ℤ → ℕ
@@ -143,7 +144,8 @@ in_range kind.U16 (negsuc n) = false
 in_range kind.U32 (pos n) = nat_lt n (2 ^ 32)
 in_range kind.U32 (negsuc n) = false
 
--- A result that is no value, or not in the range of its kind. Where the type is that of no constant there is no range.
+-- A result that is no value, or not in the range of its kind. Where the type is that of no
+-- constant there is no range.
 abbrev pub is_outside : Option ConstKind → Option ℤ → Bool
 is_outside kind None = true
 is_outside None (Some v) = false

@@ -1,5 +1,6 @@
--- What a name is bound to, and what a type means at a place: among the names declared before it, behind all typedefs.
-use Rattle.std.specs.Prelude.{ℕ, ◌+◌, Bool, true, false, not, ◌&&◌, ◌||◌, ◌==◌, List, [], ◌∷◌, Option, Some, None, codes, nat_le, unwrap_or, if◌then◌else◌}
+-- What a name is bound to, and what a type means at a place: among the names declared before it,
+-- behind all typedefs.
+use Rattle.std.specs.Prelude.{ℕ, Bool, true, false, not, ◌&&◌, ◌||◌, ◌==◌, List, [], ◌∷◌, Option, Some, None, codes, nat_le, unwrap_or, if◌then◌else◌}
 use Rattle.std.specs.Str.{bytes_eq}
 use Rattle.idl_grammar.specs.declared.tree.Attr.{Attr}
 use Rattle.idl_grammar.specs.declared.tree.TypeName.{TypeName}
@@ -8,8 +9,9 @@ use Rattle.idl_meaning.specs.declared.scope.Meant.{Meant}
 use Rattle.idl_meaning.specs.declared.scope.Meant.TheVariants as meant
 use Rattle.idl_meaning.specs.Attributes.{has, is_plain}
 
--- What the name of a type is bound to: a typedef or native, by what it means; an interface that is only named so far, by
--- its number; and one that is defined, with the number of interfaces that were defined before it.
+-- What the name of a type is bound to: a typedef or native, by what it means; an interface that
+-- is only named so far, by its number; and one that is defined, with the number of interfaces
+-- that were defined before it.
 pub data Bound : Type 0 where
   Typed : Meant → Bound
   Forward : ℕ → Bound
@@ -80,7 +82,8 @@ said_by nsid a =
     else if is_plain (codes "jsval") a then Some meant.JsVal
     else None
 
--- what a native means, by the first of its attributes that says what it is, and else as a plain native
+-- what a native means, by the first of its attributes that says what it is, and else as a plain
+-- native
 abbrev pub native_by : Meant → Meant → List Attr → Meant
 native_by plain nsid [] = plain
 native_by plain nsid (a ∷ more) = unwrap_or (said_by nsid a) (native_by plain nsid more)

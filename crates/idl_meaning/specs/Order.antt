@@ -1,5 +1,5 @@
 -- The order of faults, and what it is to be the least one.
-use Rattle.std.specs.Prelude.{◌≡◌, ℕ, ◌<◌, ◌⊎◌, ◌↔◌, List, [], ◌∷◌}
+use Rattle.std.specs.Prelude.{◌≡◌, ◌<◌, ◌⊎◌, ◌↔◌, List, [], ◌∷◌}
 use Rattle.idl_grammar.specs.declared.tree.ClosedFile.{ClosedFile}
 use Rattle.idl_meaning.specs.declared.idl_error.IdlError.{IdlError}
 use Rattle.idl_meaning.specs.declared.idl_error.IdlError.TheVariants as error
@@ -40,5 +40,6 @@ pub record IsLeast (files : List ClosedFile) (q : Fault) : Type 0 where
 
 -- the error names the least fault; want of memory names none
 abbrev pub IsLeastFault : List ClosedFile → IdlError → Type 0
-IsLeastFault files (error.Fault code file decl member) = IsLeast files (record { code = code; file = file; decl = decl; member = member })
+IsLeastFault files (error.Fault code file decl member) =
+    IsLeast files (record { code = code; file = file; decl = decl; member = member })
 IsLeastFault files error.Memory = Unit {0}

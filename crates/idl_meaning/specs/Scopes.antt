@@ -1,10 +1,10 @@
--- What is known at each place of the files, and the scope that they declare. The first declaration of a name stands.
-use Rattle.std.specs.Prelude.{ℕ, suc, ◌+◌, Bool, true, false, ◌==◌, List, [], ◌∷◌, ◌++◌, length, replicate, Option, Some, None, ℤ, codes, is_some, slice_set, option_map, option_and_then, if◌then◌else◌}
+-- What is known at each place of the files, and the scope that they declare. The first
+-- declaration of a name stands.
+use Rattle.std.specs.Prelude.{ℕ, suc, Bool, true, false, ◌==◌, List, [], ◌∷◌, ◌++◌, length, Option, Some, None, ℤ, codes, is_some, slice_set, option_and_then, if◌then◌else◌}
 use Rattle.std.specs.Option.{option_or, option_flatten}
 use Rattle.std.specs.List.{cons_option}
 use Rattle.std.specs.Str.{bytes_eq}
 use Rattle.xp_base.specs.declared.kinds.ConstKind.{ConstKind}
-use Rattle.xp_base.specs.declared.kinds.Dir.{Dir}
 use Rattle.idl_grammar.specs.declared.tree.ClosedFile.{ClosedFile}
 use Rattle.idl_grammar.specs.declared.tree.Item.{Item}
 use Rattle.idl_grammar.specs.declared.tree.ItemBody.{ItemBody}
@@ -14,7 +14,6 @@ use Rattle.idl_grammar.specs.declared.tree.Member.{Member}
 use Rattle.idl_grammar.specs.declared.tree.MemberBody.{MemberBody}
 use Rattle.idl_grammar.specs.declared.tree.MemberBody.TheVariants as member
 use Rattle.idl_grammar.specs.declared.tree.ParamDecl.{ParamDecl}
-use Rattle.idl_grammar.specs.declared.tree.TypeName.{TypeName}
 use Rattle.idl_meaning.specs.declared.scope.Meant.{Meant}
 use Rattle.idl_meaning.specs.declared.scope.Meant.TheVariants as meant
 use Rattle.idl_meaning.specs.declared.scope.Scope.{Scope}
@@ -29,9 +28,10 @@ use Rattle.idl_meaning.specs.Constants.{Values, value_of, kind_by, in_range}
 
 -- ---- what is known
 
--- What the declarations before a place make known: the names of types; the identifiers that were used; the interfaces in
--- order of first mention; how many of them are defined; and the constants that can be named in each of those, those of
--- its ancestors included, by the number of interfaces that were defined before it.
+-- What the declarations before a place make known: the names of types; the identifiers that were
+-- used; the interfaces in order of first mention; how many of them are defined; and the constants
+-- that can be named in each of those, those of its ancestors included, by the number of
+-- interfaces that were defined before it.
 pub record Known : Type 0 where
   pub names : Names
   pub iids : List ℕ → Option (Unit {0})
@@ -39,12 +39,13 @@ pub record Known : Type 0 where
   pub defined : ℕ
   pub constants : ℕ → Values
 
--- the members before a place in an interface: a constant with its value, where it has one, and any other member
+-- the members before a place in an interface: a constant with its value, where it has one, and
+-- any other member
 abbrev pub Own : Type 0
 Own = List ℕ → Option (Option ℤ)
 
--- What is known at a member: the names of types, its own interface among them; the members before it; the constants of
--- the ancestors; and whether the interface is scriptable.
+-- What is known at a member: the names of types, its own interface among them; the members before
+-- it; the constants of the ancestors; and whether the interface is scriptable.
 pub record Inside : Type 0 where
   pub names : Names
   pub own : Own
@@ -52,7 +53,13 @@ pub record Inside : Type 0 where
   pub scriptable : Bool
 
 abbrev pub nothing_known : Known
-nothing_known = record { names = nothing; iids = nothing; ifaces = []; defined = 0; constants = λ rank. nothing }
+nothing_known = record {
+  names = nothing;
+  iids = nothing;
+  ifaces = [];
+  defined = 0;
+  constants = λ rank. nothing;
+}
 
 -- an earlier constant of the same interface, else one of the nearest ancestor that has it
 abbrev pub either : Own → Values → Values
@@ -102,7 +109,12 @@ outer_constants k i = constants_at k.constants (defined_rank (parent_bound k.nam
 
 -- what is known at the first member of an interface
 abbrev pub inside : Known → Interface → Inside
-inside k i = record { names = names_within k i.name; own = nothing; outer = outer_constants k i; scriptable = has (codes "scriptable") i.attrs }
+inside k i = record {
+  names = names_within k i.name;
+  own = nothing;
+  outer = outer_constants k i;
+  scriptable = has (codes "scriptable") i.attrs;
+}
 
 -- ---- members
 
@@ -116,12 +128,14 @@ member_name (member.Method attrs of name params) = Some name
 -- the number of the first parameter of this name, where the first of these has the number `next`
 abbrev pub number_from : ℕ → List ParamDecl → List ℕ → Option ℕ
 number_from next [] name = None
-number_from next (p ∷ more) name = if bytes_eq p.name name then Some next else number_from (suc next) more name
+number_from next (p ∷ more) name =
+    if bytes_eq p.name name then Some next else number_from (suc next) more name
 
 abbrev pub number_in : List ParamDecl → List ℕ → Option ℕ
 number_in params name = number_from 0 params name
 
--- what a type stands for; one that means nothing has a fault, and what it stands for makes no difference
+-- what a type stands for; one that means nothing has a fault, and what it stands for makes no
+-- difference
 abbrev pub stands_for : Sense → Meant
 stands_for Unknown = meant.JsVal
 stands_for Nothing = meant.JsVal
@@ -154,18 +168,23 @@ params_made names numbers (p ∷ more) = param_made names numbers p ∷ params_m
 
 -- a constant of this kind and value, where it has no fault
 abbrev pub constant_made : Option ConstKind → Option ℤ → Option ScopeBody
-constant_made (Some kind) (Some value) = if in_range kind value then Some (body.Constant kind value) else None
+constant_made (Some kind) (Some value) =
+    if in_range kind value then Some (body.Constant kind value) else None
 constant_made _ _ = None
 
 abbrev pub body_made : Inside → MemberBody → Option ScopeBody
 body_made at member.Code = None
-body_made at (member.Constant of name value) = constant_made (kind_by (sense at.names of)) (value_of (visible at) value.steps)
+body_made at (member.Constant of name value) =
+    constant_made (kind_by (sense at.names of)) (value_of (visible at) value.steps)
 body_made at (member.Attribute attrs readonly of name) =
-    Some (body.Attribute (has (codes "noscript") attrs) (has (codes "notxpcom") attrs) (has (codes "implicit_jscontext") attrs) readonly
+    Some (body.Attribute (has (codes "noscript") attrs) (has (codes "notxpcom") attrs)
+    (has (codes "implicit_jscontext") attrs) readonly
     (stands_for (sense at.names of)))
 body_made at (member.Method attrs of name params) =
-    Some (body.Method (has (codes "noscript") attrs) (has (codes "notxpcom") attrs) (has (codes "optional_argc") attrs)
-    (has (codes "implicit_jscontext") attrs) (result_of (sense at.names of)) (params_made at.names (number_in params) params))
+    Some (body.Method (has (codes "noscript") attrs) (has (codes "notxpcom") attrs)
+    (has (codes "optional_argc") attrs)
+    (has (codes "implicit_jscontext") attrs) (result_of (sense at.names of))
+    (params_made at.names (number_in params) params))
 
 -- the value of a constant; one with a fault has none
 abbrev pub value_in : Option ScopeBody → Option ℤ
@@ -179,7 +198,8 @@ learns_member own (Some name) value = learns own name (Some value)
 
 -- what is known behind a member
 abbrev pub inside_after : Inside → MemberBody → Inside
-inside_after at m = record at { own = learns_member at.own (member_name m) (value_in (body_made at m)) }
+inside_after at m =
+    record at { own = learns_member at.own (member_name m) (value_in (body_made at m)) }
 
 abbrev pub inside_all : Inside → List Member → Inside
 inside_all at [] = at
@@ -193,7 +213,8 @@ member_made _ number _ = None
 abbrev pub members_made : ℕ → Inside → List Member → List ScopeMember
 members_made number at [] = []
 members_made number at (m ∷ more) =
-    cons_option (member_made (member_name m.body) number (body_made at m.body)) (members_made (suc number) (inside_after at m.body) more)
+    cons_option (member_made (member_name m.body) number (body_made at m.body))
+    (members_made (suc number) (inside_after at m.body) more)
 
 -- ---- declarations
 
@@ -208,7 +229,16 @@ iid_or_zero (Some iid) = iid
 -- an interface that is only named
 abbrev pub bare_iface : ℕ → ℕ → List ℕ → ScopeIface
 bare_iface file decl name =
-    record { name = name; iid = zero_iid; parent = None; flags = 0; defined = false; file = file; decl = decl; members = [] }
+    record {
+      name = name;
+      iid = zero_iid;
+      parent = None;
+      flags = 0;
+      defined = false;
+      file = file;
+      decl = decl;
+      members = [];
+    }
 
 -- an interface that is defined, with the number of its parent and its members
 abbrev pub iface_made : ℕ → ℕ → Interface → Option ℕ → List ScopeMember → ScopeIface
@@ -225,7 +255,8 @@ iface_made file decl i above_it made = record {
 
 -- the interface at its number, or last
 abbrev pub placed : List ScopeIface → ℕ → ScopeIface → List ScopeIface
-placed ifaces number iface = if number == length ifaces then ifaces ++ iface ∷ [] else slice_set ifaces number iface
+placed ifaces number iface =
+    if number == length ifaces then ifaces ++ iface ∷ [] else slice_set ifaces number iface
 
 abbrev pub used_iid : (List ℕ → Option (Unit {0})) → Option (List ℕ) → List ℕ → Option (Unit {0})
 used_iid iids None = iids
@@ -233,17 +264,20 @@ used_iid iids (Some iid) = learns iids iid (Some tt)
 
 -- the constants of each defined interface, and of one more
 abbrev pub with_definition : (ℕ → Values) → ℕ → Values → ℕ → Values
-with_definition constants latest values rank name = if rank == latest then values name else constants rank name
+with_definition constants latest values rank name =
+    if rank == latest then values name else constants rank name
 
 -- what is known behind the definition of an interface
 abbrev pub after_interface : ℕ → ℕ → Known → Interface → Known
 after_interface file decl k i = record {
   names = names_within k i.name;
   iids = used_iid k.iids (uuid_of i.attrs);
-  ifaces = placed k.ifaces (next_number k i.name) 
-      (iface_made file decl i (defined_number (parent_bound k.names i.parent)) (members_made 1 (inside k i) i.members));
+  ifaces = placed k.ifaces (next_number k i.name)
+      (iface_made file decl i (defined_number (parent_bound k.names i.parent))
+      (members_made 1 (inside k i) i.members));
   defined = suc k.defined;
-  constants = with_definition k.constants k.defined (either (inside_all (inside k i) i.members).own (outer_constants k i));
+  constants = with_definition k.constants k.defined
+      (either (inside_all (inside k i) i.members).own (outer_constants k i));
 }
 
 -- a name for a type
@@ -254,7 +288,10 @@ with_type k name m = record k { names = learns k.names name (Some (Typed m)) }
 abbrev pub after_forward : ℕ → ℕ → Known → List ℕ → Known
 after_forward file decl k name =
     if is_some (k.names name) then k
-    else record k { names = learns k.names name (Some (Forward (length k.ifaces))); ifaces = k.ifaces ++ bare_iface file decl name ∷ [] }
+    else record k {
+      names = learns k.names name (Some (Forward (length k.ifaces)));
+      ifaces = k.ifaces ++ bare_iface file decl name ∷ [];
+    }
 
 -- what is known behind a declaration that has no fault
 abbrev pub after_new : ℕ → ℕ → Known → ItemBody → Known
@@ -277,7 +314,8 @@ is_taken (Some (Forward number)) = false
 is_taken (Some (Typed m)) = true
 is_taken (Some (Defined number rank)) = true
 
--- The name is declared before. A forward declaration may stand beside its interface and others of it.
+-- The name is declared before. A forward declaration may stand beside its interface and others of
+-- it.
 abbrev pub redeclares : Names → ItemBody → Bool
 redeclares names (item.Include name) = false
 redeclares names item.Code = false

@@ -13,8 +13,8 @@ pub enum IdlError {
         file: u32,
         /// The number of the declaration among all items of the file, from 0.
         decl: u32,
-        /// The number of the member among all members of the interface, code blocks counted, from 1; 0 for the
-        /// declaration itself.
+        /// The number of the member among all members of the interface, code blocks counted, from
+        /// 1; 0 for the declaration itself.
         member: u32,
     },
     /// There was no memory.

@@ -1,6 +1,8 @@
-//! What the files of an XPIDL closure mean: the scope that they declare, and the faults that they have.
+//! What the files of an XPIDL closure mean: the scope that they declare, and the faults that they
+//! have.
 //!
-//! The types of a scope stand here, with the definitions that contracts cite and their laws. `idl_names` has the code.
+//! The types of a scope stand here, with the definitions that contracts cite and their laws.
+//! `idl_names` has the code.
 #![tactic(auto)]
 
 mod idl_error;

@@ -1,8 +1,8 @@
 -- The first of the faults, where lists of faults are joined.
-use Rattle.std.proofs.Common.{◌≡◌, ℕ, suc, ◌+◌, ◌≤◌, ◌<◌, List, [], ◌∷◌, ◌++◌, Option, Some, None, refl, sym, ap, ◌∙◌, arith}
+use Rattle.std.proofs.Common.{◌≡◌, ℕ, List, [], ◌∷◌, ◌++◌, Option, Some, None, refl, ap}
 use Rattle.idl_meaning.specs.declared.idl_error.IdlError.{IdlError}
 use Rattle.idl_meaning.specs.declared.idl_error.IdlError.TheVariants as error
-use Rattle.idl_meaning.specs.Faults.{Fault, IsFirst, first, Declaration, conditions, when, numbered, codes_at, faults_with}
+use Rattle.idl_meaning.specs.Faults.{Fault, IsFirst, first, Declaration, when, codes_at, faults_with}
 use Rattle.idl_meaning.specs.Scopes.{Known, redeclares}
 use Rattle.idl_grammar.specs.declared.tree.ItemBody.{ItemBody}
 use Rattle.std.proofs.Common.{Bool, true, false, option_map}

@@ -1,5 +1,5 @@
 -- The parameters of a method by name, from the last to the first.
-use Rattle.std.proofs.Common.{◌≡◌, ℕ, suc, ◌<◌, List, [], ◌∷◌, length, get_or, drop, drop-cons, Option, Some, None, refl, sym, ap, ◌∙◌, arith, option_map}
+use Rattle.std.proofs.Common.{◌≡◌, ℕ, suc, ◌<◌, List, ◌∷◌, length, get_or, drop, drop-cons, Option, Some, sym, ap, ◌∙◌, option_map}
 use Rattle.idl_grammar.specs.declared.tree.ParamDecl.{ParamDecl}
 use Rattle.idl_meaning.specs.Meaning.{learns}
 use Rattle.idl_meaning.specs.Scopes.{number_from}

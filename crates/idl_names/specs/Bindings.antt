@@ -1,5 +1,5 @@
 -- What the code's lent forms stand for.
-use Rattle.std.specs.Prelude.{ℕ, List, Option, option_map}
+use Rattle.std.specs.Prelude.{option_map}
 use Rattle.idl_meaning.specs.declared.scope.Meant.{Meant}
 use Rattle.idl_meaning.specs.declared.scope.Meant.TheVariants as meant
 use Rattle.idl_meaning.specs.Meaning as spec

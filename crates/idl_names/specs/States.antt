@@ -24,7 +24,8 @@ abbrev pub iid_code : (List ℕ → Option (Unit {0})) → Option (List ℕ) →
 iid_code iids None = Some 4
 iid_code iids (Some iid) = if is_some (iids iid) then Some 5 else None
 
--- what is known at the first member of an interface whose name is bound, and whose parent has this rank
+-- what is known at the first member of an interface whose name is bound, and whose parent has
+-- this rank
 abbrev pub opened : State → Option ℕ → Interface → Inside
 opened state start i = record {
   names = names_of state.names;

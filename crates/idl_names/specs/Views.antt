@@ -8,12 +8,13 @@ use Rattle.idl_names.specs.declared.interfaces.Around.{Around}
 use Rattle.idl_names.specs.Tables.{known}
 use Rattle.idl_names.specs.Bindings.{names_of}
 
--- The constants that are seen in the definition of a rank: its own, and those of its ancestors. The latest stands first,
--- and a parent is one of those before it.
+-- The constants that are seen in the definition of a rank: its own, and those of its ancestors.
+-- The latest stands first, and a parent is one of those before it.
 abbrev pub seen_latest : List Definition → ℕ → Values
 seen_latest [] rank name = None
 seen_latest (d ∷ before) rank name =
-    if rank == length before then either (known d.own) (constants_at (seen_latest before) d.parent) name else seen_latest before rank name
+    if rank == length before then either (known d.own)
+    (constants_at (seen_latest before) d.parent) name else seen_latest before rank name
 
 abbrev pub seen : List Definition → ℕ → Values
 seen definitions = seen_latest (reverse definitions)

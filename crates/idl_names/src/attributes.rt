@@ -88,5 +88,7 @@ fn bit(bit: u8, name: &[u8], attrs: &[Attr]) -> u8
 pub fn iface_bits(attrs: &[Attr]) -> u8
     ensures { result ≡ spec.iface_bits attrs.now }
 {
-    bit(0x80, b"scriptable", attrs) + bit(0x40, b"function", attrs) + bit(0x20, b"builtinclass", attrs)
+    bit(0x80, b"scriptable", attrs)
+        + bit(0x40, b"function", attrs)
+        + bit(0x20, b"builtinclass", attrs)
 }

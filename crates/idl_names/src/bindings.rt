@@ -234,7 +234,8 @@ fn said_by<'a>(nsid: Lent<'a>, attr: &Attr) -> Option<Lent<'a>>
     }
 }
 
-/// What a native means: what the first of its attributes says that says what it is, else a plain native.
+/// What a native means: what the first of its attributes says that says what it is, else a plain
+/// native.
 pub fn native<'a>(name: &'a [u8], attrs: &[Attr]) -> Lent<'a>
     ensures { meant_of result ≡ spec.native_meaning name.now attrs.now }
 {

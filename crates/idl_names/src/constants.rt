@@ -9,7 +9,8 @@ ghost use Rattle.idl_names.specs.Views.{below, seen};
 use crate::table::Table;
 use xp_base::List;
 
-/// An interface that is defined: the place of its parent among these, and its own members, each constant with its value.
+/// An interface that is defined: the place of its parent among these, and its own members, each
+/// constant with its value.
 #[derive(Drop)]
 pub struct Definition<'a> {
     pub parent: Option<usize>,
@@ -36,7 +37,8 @@ pub fn own_value(own: &Table<'_, Option<i64>>, name: &[u8]) -> Option<i64>
     }
 }
 
-/// The constant of this name in the definition at `start`, else in its nearest ancestor that has one.
+/// The constant of this name in the definition at `start`, else in its nearest ancestor that has
+/// one.
 pub fn find(constants: &List<Definition<'_>>, start: Option<usize>, name: &[u8]) -> Option<i64>
     ensures { result ≡ constants_at (seen constants.now) start name.now }
 {

@@ -30,12 +30,14 @@ pub struct DeclPlace {
 
 /// Names a type. The one error is want of memory.
 fn name_type<'a>(state: &mut State<'a>, name: &'a Bytes, lent: Lent<'a>) -> Result<(), Memory>
-    ensures { OnOk result (view state.new ≡ scopes.with_type (view state.old) name.now (meant_of lent.entry)) }
+    ensures { OnOk result (view state.new
+        ≡ scopes.with_type (view state.old) name.now (meant_of lent.entry)) }
 {
     bind(&mut state.names, name.as_slice(), Binding::Typed(lent))
 }
 
-/// What a type stands for; one that means nothing has a fault, and what is given makes no difference.
+/// What a type stands for; one that means nothing has a fault, and what is given makes no
+/// difference.
 fn stands_for(read: Reading<'_>) -> Lent<'_>
     ensures { meant_of result ≡ scopes.stands_for (sense_of read.entry) }
 {
@@ -148,7 +150,8 @@ fn iface_made(
     parent: Option<u32>,
     members: List<ScopeMember>,
 ) -> Result<ScopeIface, Memory>
-    ensures { IfOk result (λ iface. iface ≡ scopes.iface_made place.file place.decl interface.now parent members) }
+    ensures { IfOk result (λ iface. iface
+        ≡ scopes.iface_made place.file place.decl interface.now parent members) }
 {
     let attrs = interface.attrs.as_slice();
     Ok(ScopeIface {
@@ -179,7 +182,8 @@ fn members<'a>(
         ≡ scopes.members_made 1 (opened state.now start interface.now) interface.now.members) }
     ensures own { IfOk result (λ taken. known taken.own
         ≡ (scopes.inside_all (opened state.now start interface.now) interface.now.members).own) }
-    ensures fault { IfErr result (λ error. spec.IsFirst error (spec.member_faults place.file place.decl 1
+    ensures fault { IfErr result (λ error. spec.IsFirst error
+        (spec.member_faults place.file place.decl 1
         (opened state.now start interface.now) interface.now.members)) }
 {
     let around = Around {
@@ -188,7 +192,13 @@ fn members<'a>(
         start,
         scriptable: has(b"scriptable", interface.attrs.as_slice()),
     };
-    take_members(alloc, &around, place.file, place.decl, interface.members.as_slice())
+    take_members(
+        alloc,
+        &around,
+        place.file,
+        place.decl,
+        interface.members.as_slice(),
+    )
 }
 
 /// What was found where the definition of an interface opens.
@@ -203,21 +213,22 @@ struct Opening {
 }
 
 /// Binds the name of an interface that is defined. The one error is want of memory.
-fn open_interface<'a>(
-    state: &mut State<'a>,
-    interface: &'a Interface,
-) -> Result<Opening, Memory>
+fn open_interface<'a>(state: &mut State<'a>, interface: &'a Interface) -> Result<Opening, Memory>
     requires { length (view state.old).ifaces < 2 ^ 32 }
     ensures number { IfOk result (λ opening. opening.number
         ≡ scopes.next_number (view state.old) interface.now.name) }
     ensures parent { IfOk result (λ opening. opening.parent
         ≡ scopes.defined_number (scopes.parent_bound (view state.old).names interface.now.parent)) }
-    ensures outer { IfOk result (λ opening. scopes.constants_at (view state.old).constants opening.start
+    ensures outer { IfOk result (λ opening. scopes.constants_at (view state.old).constants
+        opening.start
         ≡ scopes.outer_constants (view state.old) interface.now) }
     ensures opened { IfOk result (λ opening. opened state.new opening.start interface.now
         ≡ scopes.inside (view state.old) interface.now) }
     ensures known { OnOk result (view state.new
-        ≡ record (view state.old) { names = scopes.names_within (view state.old) interface.now.name }) }
+        ≡ record (view state.old) {
+          names = scopes.names_within (view state.old)
+              interface.now.name;
+        }) }
 {
     let number = next_number(state, &interface.name);
     let bound = parent_bound(&state.names, &interface.parent);
@@ -242,12 +253,13 @@ fn store<'a>(
     definition: Definition<'a>,
 ) -> Result<(), Memory>
     ensures { OnOk result (view state.new ≡ record {
-        names = (view state.old).names;
-        iids = scopes.used_iid (view state.old).iids iid;
-        ifaces = scopes.placed (view state.old).ifaces number iface;
-        defined = suc (view state.old).defined;
-        constants = scopes.with_definition (view state.old).constants (view state.old).defined
-            (scopes.either (known definition.entry.own) (scopes.constants_at (view state.old).constants definition.entry.parent));
+      names = (view state.old).names;
+      iids = scopes.used_iid (view state.old).iids iid;
+      ifaces = scopes.placed (view state.old).ifaces number iface;
+      defined = suc (view state.old).defined;
+      constants = scopes.with_definition (view state.old).constants (view state.old).defined
+          (scopes.either (known definition.entry.own)
+          (scopes.constants_at (view state.old).constants definition.entry.parent));
     }) }
 {
     use_iid(&mut state.iids, iid)?;
@@ -265,7 +277,8 @@ fn define<'a>(
     requires few { length (view state.old).ifaces < 2 ^ 32 }
     requires members { length interface.now.members < 2 ^ 32 }
     requires counted { AreCountedMembers interface.now.members }
-    ensures none { OnOk result (spec.inner_faults place.file place.decl (view state.old) (item.Interface interface.now) ≡ []) }
+    ensures none { OnOk result (spec.inner_faults place.file place.decl (view state.old)
+        (item.Interface interface.now) ≡ []) }
     ensures known { OnOk result (view state.new
         ≡ scopes.after_interface place.file place.decl (view state.old) interface.now) }
     ensures fault { IfErr result (λ error. spec.IsFirst error
@@ -287,7 +300,8 @@ fn define<'a>(
     Ok(())
 }
 
-/// Takes a declaration without a fault of its own, of which the first member with a fault is refused.
+/// Takes a declaration without a fault of its own, of which the first member with a fault is
+/// refused.
 pub fn take<'a>(
     alloc: Global,
     state: &mut State<'a>,
@@ -296,7 +310,8 @@ pub fn take<'a>(
 ) -> Result<(), IdlError>
     requires few { length (view state.old).ifaces < 2 ^ 32 }
     requires counted { IsCountedItem body.now }
-    ensures none { OnOk result (spec.inner_faults place.file place.decl (view state.old) body.now ≡ []) }
+    ensures none { OnOk result (spec.inner_faults place.file place.decl (view state.old) body.now
+        ≡ []) }
     ensures known { OnOk result (view state.new
         ≡ scopes.after_new place.file place.decl (view state.old) body.now) }
     ensures fault { IfErr result (λ error. spec.IsFirst error

@@ -60,12 +60,9 @@ fn next(here: &Here<'_, '_>, step: &ExprStep, values: &mut VecDeque<i64>) -> Opt
 }
 
 /// Takes a step; false where it has no value. The one error is want of memory.
-fn advance(
-    here: &Here<'_, '_>,
-    step: &ExprStep,
-    values: &mut VecDeque<i64>,
-) -> Result<bool, Memory>
-    ensures { IfOk result (λ there. spec.advanced (visible (inside_of here.now)) step.now values.old.items
+fn advance(here: &Here<'_, '_>, step: &ExprStep, values: &mut VecDeque<i64>) -> Result<bool, Memory>
+    ensures { IfOk result (λ there. spec.advanced (visible (inside_of here.now)) step.now
+        values.old.items
         ≡ (if there then Some values.new.items else None)) }
 {
     let Some(value) = next(here, step, values) else {
@@ -85,12 +82,9 @@ fn only(mut values: VecDeque<i64>) -> Option<i64>
 
 /// The value of an expression; None where a number is out of range or a name is not known.
 /// The one error is want of memory.
-pub fn value(
-    alloc: Global,
-    here: &Here<'_, '_>,
-    steps: &[ExprStep],
-) -> Result<Option<i64>, Memory>
-    ensures { IfOk result (λ value. value ≡ spec.value_of (visible (inside_of here.now)) steps.now) }
+pub fn value(alloc: Global, here: &Here<'_, '_>, steps: &[ExprStep]) -> Result<Option<i64>, Memory>
+    ensures { IfOk result (λ value. value
+        ≡ spec.value_of (visible (inside_of here.now)) steps.now) }
 {
     let mut values = VecDeque::new(alloc);
     for step in steps {

@@ -58,14 +58,18 @@ fn take_member<'a>(
 ) -> Result<(), IdlError>
     requires { IsCountedMember member.now.body }
     ensures none { OnOk result
-        (spec.codes_at (spec.Within (inside_with around.now (known taken.old.own)) member.now.body) ≡ []) }
+        (spec.codes_at (spec.Within (inside_with around.now (known taken.old.own))
+        member.now.body) ≡ []) }
     ensures made { OnOk result (taken.new.made ≡ taken.old.made ++ option_to_list
         (scopes.member_made (scopes.member_name member.now.body) place.number
         (scopes.body_made (inside_with around.now (known taken.old.own)) member.now.body))) }
     ensures own { OnOk result (known taken.new.own
-        ≡ (scopes.inside_after (inside_with around.now (known taken.old.own)) member.now.body).own) }
-    ensures fault { IfErr result (λ error. spec.IsFirst error (spec.faults_with place.file place.decl place.number
-        (spec.codes_at (spec.Within (inside_with around.now (known taken.old.own)) member.now.body)))) }
+        ≡ (scopes.inside_after (inside_with around.now (known taken.old.own))
+        member.now.body).own) }
+    ensures fault { IfErr result (λ error. spec.IsFirst error
+        (spec.faults_with place.file place.decl place.number
+        (spec.codes_at (spec.Within (inside_with around.now (known taken.old.own))
+        member.now.body)))) }
 {
     let here = Here {
         names: around.names,
@@ -101,7 +105,8 @@ pub fn take_members<'a>(
 ) -> Result<Members<'a>, IdlError>
     requires few { length members.now < 2 ^ 32 }
     requires counted { AreCountedMembers members.now }
-    ensures none { OnOk result (spec.member_faults file decl 1 (inside_with around.now nothing) members.now ≡ []) }
+    ensures none { OnOk result (spec.member_faults file decl 1 (inside_with around.now nothing)
+        members.now ≡ []) }
     ensures made { IfOk result (λ taken. taken.made
         ≡ scopes.members_made 1 (inside_with around.now nothing) members.now) }
     ensures own { IfOk result (λ taken. known taken.own

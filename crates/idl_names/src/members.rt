@@ -28,7 +28,8 @@ use idl_meaning::{Meant, ScopeBody, ScopeMember};
 use std::alloc::Global;
 use xp_base::{Bytes, ConstKind, List, Memory};
 
-/// Whether a member of these attributes is neither `noscript` nor `notxpcom`, in a scriptable interface.
+/// Whether a member of these attributes is neither `noscript` nor `notxpcom`, in a scriptable
+/// interface.
 fn is_shown(here: &Here<'_, '_>, attrs: &[Attr]) -> bool
     ensures { result ≡ spec.is_shown (inside_of here.now) attrs.now }
 {
@@ -62,7 +63,8 @@ fn constant_code(
     expr: &Expr,
 ) -> Result<Option<u8>, Memory>
     ensures { IfOk result (λ code. code
-        ≡ spec.first (spec.codes_at (spec.Within (inside_of here.now) (member.Constant of.now name.now expr.now)))) }
+        ≡ spec.first (spec.codes_at (spec.Within (inside_of here.now)
+        (member.Constant of.now name.now expr.now)))) }
 {
     let read = read_type(here.names, of);
     if is_known_member(here, name) {
@@ -92,7 +94,8 @@ fn attribute_code(
     name: &Bytes,
 ) -> Option<u8>
     ensures { result
-        ≡ spec.first (spec.codes_at (spec.Within (inside_of here.now) (member.Attribute attrs.now readonly of.now name.now))) }
+        ≡ spec.first (spec.codes_at (spec.Within (inside_of here.now)
+        (member.Attribute attrs.now readonly of.now name.now))) }
 {
     let _kept = readonly;
     let read = read_type(here.names, of);
@@ -114,7 +117,8 @@ fn attribute_code(
     None
 }
 
-/// The first code of a method, whose parameters have these names, and no name twice unless `repeated`.
+/// The first code of a method, whose parameters have these names, and no name twice unless
+/// `repeated`.
 fn first_code(
     here: &Here<'_, '_>,
     repeated: bool,
@@ -127,7 +131,8 @@ fn first_code(
     requires twice { repeated ≡ spec.any_repeated nothing params.now }
     requires names { params_of named.now ≡ spec.param_of params.now }
     ensures { result
-        ≡ spec.first (spec.codes_at (spec.Within (inside_of here.now) (member.Method attrs.now of.now name.now params.now))) }
+        ≡ spec.first (spec.codes_at (spec.Within (inside_of here.now)
+        (member.Method attrs.now of.now name.now params.now))) }
 {
     let read = read_type(here.names, of);
     let all = params.as_slice();
@@ -172,7 +177,8 @@ fn method_code(
 ) -> Result<Option<u8>, Memory>
     requires { length params.now < 2 ^ 32 }
     ensures { IfOk result (λ code. code
-        ≡ spec.first (spec.codes_at (spec.Within (inside_of here.now) (member.Method attrs.now of.now name.now params.now)))) }
+        ≡ spec.first (spec.codes_at (spec.Within (inside_of here.now)
+        (member.Method attrs.now of.now name.now params.now)))) }
 {
     let repeated = any_repeated(alloc, params.as_slice())?;
     let named = by_name(alloc, params.as_slice())?;
@@ -186,7 +192,8 @@ pub fn member_code(
     body: &MemberBody,
 ) -> Result<Option<u8>, Memory>
     requires { IsCountedMember body.now }
-    ensures { IfOk result (λ code. code ≡ spec.first (spec.codes_at (spec.Within (inside_of here.now) body.now))) }
+    ensures { IfOk result (λ code. code
+        ≡ spec.first (spec.codes_at (spec.Within (inside_of here.now) body.now))) }
 {
     match body {
         MemberBody::Code => Ok(None),
@@ -243,7 +250,8 @@ fn method_made(
 ) -> Result<Option<ScopeBody>, Memory>
     requires { length params.now < 2 ^ 32 }
     ensures { IfOk result (λ made. made
-        ≡ scopes.body_made (inside_of here.now) (member.Method attrs.now of.now name.now params.now)) }
+        ≡ scopes.body_made (inside_of here.now)
+        (member.Method attrs.now of.now name.now params.now)) }
 {
     let _kept = name.as_slice();
     let read = read_type(here.names, of);
@@ -269,7 +277,11 @@ pub fn body_made(
 {
     match body {
         MemberBody::Code => Ok(None),
-        MemberBody::Constant { of, value: expr, .. } => {
+        MemberBody::Constant {
+            of,
+            value: expr,
+            ..
+        } => {
             let read = read_type(here.names, of);
             Ok(constant_made(read.kind(), value(alloc, here, expr.steps.as_slice())?))
         }
@@ -323,7 +335,8 @@ pub fn learn<'a>(
     made: &Option<ScopeBody>,
 ) -> Result<(), Memory>
     ensures { OnOk result (known own.new
-        ≡ scopes.learns_member (known own.old) (scopes.member_name body.now) (scopes.value_in made.now)) }
+        ≡ scopes.learns_member (known own.old) (scopes.member_name body.now)
+        (scopes.value_in made.now)) }
 {
     match member_name(body) {
         Some(name) => own.put(name.as_slice(), value_in(made)),
@@ -338,7 +351,8 @@ pub fn member_made(
     body: &MemberBody,
     made: Option<ScopeBody>,
 ) -> Result<Option<ScopeMember>, Memory>
-    ensures { IfOk result (λ member. member ≡ scopes.member_made (scopes.member_name body.now) number made) }
+    ensures { IfOk result (λ member. member
+        ≡ scopes.member_made (scopes.member_name body.now) number made) }
 {
     let (Some(name), Some(body)) = (member_name(body), made) else {
         return Ok(None);

@@ -53,7 +53,11 @@ pub fn spelled(text: &[u8]) -> Option<i64>
 fn shift_count(by: i64) -> Option<u32>
     ensures { result ≡ spec.shift_count by }
 {
-    if 0 <= by && by < 64 { Some(by as u32) } else { None }
+    if 0 <= by && by < 64 {
+        Some(by as u32)
+    } else {
+        None
+    }
 }
 
 /// A power of two.

@@ -24,7 +24,8 @@ pub struct Numbered<'a> {
     pub param: &'a ParamDecl,
 }
 
-/// The parameters of a method by name; of several with one name the first. The one error is want of memory.
+/// The parameters of a method by name; of several with one name the first. The one error is want
+/// of memory.
 pub fn by_name<'a>(
     alloc: Global,
     params: &'a [ParamDecl],
@@ -133,12 +134,9 @@ fn is_misdirected(names: &Table<'_, Binding<'_>>, param: &ParamDecl) -> bool
 }
 
 /// Whether no parameter of this name is an integer and no array.
-fn is_no_count(
-    names: &Table<'_, Binding<'_>>,
-    named: &Table<'_, Numbered<'_>>,
-    name: &[u8],
-) -> bool
-    ensures { result ≡ spec.is_no_param is_integer (names_of names.now) (params_of named.now name.now) }
+fn is_no_count(names: &Table<'_, Binding<'_>>, named: &Table<'_, Numbered<'_>>, name: &[u8]) -> bool
+    ensures { result ≡ spec.is_no_param is_integer (names_of names.now)
+        (params_of named.now name.now) }
 {
     match named.find(name) {
         Some(found) => {
@@ -150,11 +148,7 @@ fn is_no_count(
 }
 
 /// Whether no parameter of this name is an identifier and no array.
-fn is_no_iid(
-    names: &Table<'_, Binding<'_>>,
-    named: &Table<'_, Numbered<'_>>,
-    name: &[u8],
-) -> bool
+fn is_no_iid(names: &Table<'_, Binding<'_>>, named: &Table<'_, Numbered<'_>>, name: &[u8]) -> bool
     ensures { result ≡ spec.is_no_param is_iid (names_of names.now) (params_of named.now name.now) }
 {
     match named.find(name) {
@@ -254,9 +248,12 @@ pub fn any_mismeasured(
     named: &Table<'_, Numbered<'_>>,
     params: &[ParamDecl],
 ) -> bool
-    ensures { result ≡ list_any (spec.is_mismeasured (names_of names.now) (params_of named.now)) params.now }
+    ensures { result ≡ list_any (spec.is_mismeasured (names_of names.now) (params_of named.now))
+        params.now }
 {
-    params.iter().any(|param| is_mismeasured(names, named, param))
+    params
+        .iter()
+        .any(|param| is_mismeasured(names, named, param))
 }
 
 pub fn any_wrong_array(names: &Table<'_, Binding<'_>>, params: &[ParamDecl]) -> bool
@@ -318,7 +315,8 @@ pub fn any_gap(params: &[ParamDecl]) -> bool
 
 // ---- what is made of parameters
 
-/// The meaning of a type; one that means nothing has a fault, and what is given makes no difference.
+/// The meaning of a type; one that means nothing has a fault, and what is given makes no
+/// difference.
 pub fn stands_for(alloc: Global, read: Reading<'_>) -> Result<Meant, Memory>
     ensures { IfOk result (λ meant. meant ≡ scopes.stands_for (sense_of read.entry)) }
 {
@@ -330,7 +328,8 @@ pub fn stands_for(alloc: Global, read: Reading<'_>) -> Result<Meant, Memory>
 
 /// The number of the parameter of this name.
 fn number(named: &Table<'_, Numbered<'_>>, name: Option<&[u8]>) -> Option<u32>
-    ensures { result ≡ option_and_then (numbers_of named.now) (option_map (λ word. word.now) name.entry) }
+    ensures { result ≡ option_and_then (numbers_of named.now)
+        (option_map (λ word. word.now) name.entry) }
 {
     let found = named.find(name?)?;
     Some(found.number)
@@ -342,7 +341,8 @@ fn made(
     named: &Table<'_, Numbered<'_>>,
     param: &ParamDecl,
 ) -> Result<ScopeParam, Memory>
-    ensures { IfOk result (λ made. made ≡ param_made (names_of names.now) (numbers_of named.now) param.now) }
+    ensures { IfOk result (λ made. made
+        ≡ param_made (names_of names.now) (numbers_of named.now) param.now) }
 {
     let read = read_type(names, &param.of);
     let attrs = param.attrs.as_slice();
@@ -367,7 +367,8 @@ pub fn all_made(
     named: &Table<'_, Numbered<'_>>,
     params: &[ParamDecl],
 ) -> Result<List<ScopeParam>, Memory>
-    ensures { IfOk result (λ made. made ≡ params_made (names_of names.now) (numbers_of named.now) params.now) }
+    ensures { IfOk result (λ made. made
+        ≡ params_made (names_of names.now) (numbers_of named.now) params.now) }
 {
     let mut all = List::new(alloc);
     for param in params {

@@ -24,7 +24,8 @@ fn take_item<'a>(
 ) -> Result<(), IdlError>
     requires few { length (view state.old).ifaces < 2 ^ 32 }
     requires counted { IsCountedItem item.now.body }
-    ensures none { OnOk result (spec.item_faults place.file place.decl (view state.old) item.now.body ≡ []) }
+    ensures none { OnOk result (spec.item_faults place.file place.decl (view state.old)
+        item.now.body ≡ []) }
     ensures known { OnOk result (view state.new
         ≡ scopes.after place.file place.decl (view state.old) item.now.body) }
     ensures fault { IfErr result (λ error. spec.IsFirst error
@@ -52,9 +53,12 @@ fn take_items<'a>(
     requires few { length (view state.old).ifaces + length items.now < 2 ^ 32 }
     requires counted { AreCountedItems items.now }
     ensures none { OnOk result (spec.file_faults file 0 (view state.old) items.now ≡ []) }
-    ensures known { OnOk result (view state.new ≡ scopes.after_items file 0 (view state.old) items.now) }
-    ensures few { OnOk result (length (view state.new).ifaces ≤ length (view state.old).ifaces + length items.now) }
-    ensures fault { IfErr result (λ error. spec.IsFirst error (spec.file_faults file 0 (view state.old) items.now)) }
+    ensures known { OnOk result (view state.new
+        ≡ scopes.after_items file 0 (view state.old) items.now) }
+    ensures few { OnOk result (length (view state.new).ifaces ≤ length (view state.old).ifaces
+        + length items.now) }
+    ensures fault { IfErr result (λ error. spec.IsFirst error
+        (spec.file_faults file 0 (view state.old) items.now)) }
 {
     for (i, item) in items.iter().enumerate() {
         let place = DeclPlace {
@@ -79,7 +83,8 @@ fn take_files<'a>(
     requires counted { AreCountedFiles files.now }
     ensures none { OnOk result (spec.faults_from 0 (view state.old) files.now ≡ []) }
     ensures known { OnOk result (view state.new ≡ scopes.after_files 0 (view state.old) files.now) }
-    ensures fault { IfErr result (λ error. spec.IsFirst error (spec.faults_from 0 (view state.old) files.now)) }
+    ensures fault { IfErr result (λ error. spec.IsFirst error
+        (spec.faults_from 0 (view state.old) files.now)) }
 {
     for (i, file) in files.iter().enumerate() {
         let number = i as u32;
@@ -130,7 +135,8 @@ pub fn resolve(alloc: Global, files: &List<ClosedFile>) -> Result<Scope, IdlErro
     requires items { items_of files.now < 2 ^ 32 }
     requires lawful { AreLawfulFiles files.now }
 
-    // A scope is given where no condition of a code holds at any place, and it is that of the files.
+    // A scope is given where no condition of a code holds at any place, and it is that of the
+    // files.
     ensures accepted { OnOk result (HasNoFault files.now) }
     ensures scope { IfOk result (λ scope. scope ≡ scopes.scope_of files.now) }
 

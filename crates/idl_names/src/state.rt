@@ -145,7 +145,8 @@ fn is_undefined(names: &Table<'_, Binding<'_>>, parent: &Option<Bytes>) -> bool
 
 /// The first code of a typedef.
 fn typedef_code(state: &State<'_>, of: &TypeName, name: &Bytes) -> Option<u8>
-    ensures { result ≡ spec.first (spec.codes_at (spec.Declaration (view state.now) (item.Typedef of.now name.now))) }
+    ensures { result ≡ spec.first (spec.codes_at
+        (spec.Declaration (view state.now) (item.Typedef of.now name.now))) }
 {
     let read = read_type(&state.names, of);
     if is_bound(&state.names, name) {
@@ -173,7 +174,8 @@ fn iid_code(iids: &Identifiers, attrs: &[Attr]) -> Option<u8>
 
 /// The first code of the definition of an interface.
 fn interface_code(state: &State<'_>, interface: &Interface) -> Option<u8>
-    ensures { result ≡ spec.first (spec.codes_at (spec.Declaration (view state.now) (item.Interface interface.now))) }
+    ensures { result ≡ spec.first (spec.codes_at
+        (spec.Declaration (view state.now) (item.Interface interface.now))) }
 {
     if is_taken(&state.names, &interface.name) {
         return Some(1);

@@ -1,11 +1,11 @@
 use Rattle.std.proofs.Common.{◌≡◌, Some, None, sym, ap, ◌∙◌, rules, w64}
 use Rattle.std.specs.Prelude.{slice_get}
-use Rattle.std.specs.Option.{option_copied, option_or, option_flatten}
+use Rattle.std.specs.Option.{option_copied, option_flatten}
 use Rattle.std.specs.Int.RustNames.{FitsSigned}
 use Rattle.std.proofs.lemmas.Int.{to_z-of_z}
 use Rattle.idl_meaning.specs.Scopes.{constants_at}
 use Rattle.idl_names.specs.Tables.{known}
-use Rattle.idl_names.specs.Views.{below, seen}
+use Rattle.idl_names.specs.Views.{seen}
 use Rattle.idl_names.proofs.Seen.{seen-step, seen-none, own_first, own_none}
 use Rattle.idl_names.proofs.constants.find.Goals as goal
 

@@ -1,4 +1,4 @@
-use Rattle.std.proofs.Common.{◌≡◌, ℕ, suc, Option, Some, None}
+use Rattle.std.proofs.Common.{◌≡◌}
 use Rattle.idl_meaning.specs.Scopes.{constants_at}
 use Rattle.idl_names.specs.Views.{seen}
 use Rattle.idl_names.proofs.Seen.{above}

@@ -1,4 +1,4 @@
-use Rattle.std.proofs.Common.{◌≡◌, ℕ, suc, ◌+◌, List, ◌∷◌, length, drop, drop-cons, sym, ap, ◌∙◌, subst, arith}
+use Rattle.std.proofs.Common.{◌≡◌, ℕ, suc, ◌+◌, List, ◌∷◌, drop, drop-cons, sym, ap, ◌∙◌, subst, arith}
 use Rattle.idl_grammar.specs.declared.tree.Member.{Member}
 use Rattle.idl_meaning.specs.Scopes as scopes
 use Rattle.idl_meaning.specs.Faults as spec

@@ -1,4 +1,4 @@
-use Rattle.std.proofs.Common.{◌≡◌, ◌^◌, ◌<◌, arith}
+use Rattle.std.proofs.Common.{◌^◌, ◌<◌, arith}
 use Rattle.std.proofs.Math.Pow.{pow-lt}
 use Rattle.std.proofs.lemmas.Int.{ints}
 use Rattle.idl_names.proofs.numbers.power.Goals as goal

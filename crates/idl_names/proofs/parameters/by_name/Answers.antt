@@ -1,8 +1,7 @@
-use Rattle.std.proofs.Common.{◌≡◌, ℕ, suc, ◌-◌, ◌<◌, List, Option, Some, refl, sym, ap, ◌∙◌, arith, length, drop, option_map}
+use Rattle.std.proofs.Common.{◌≡◌, suc, ◌-◌, ◌<◌, refl, sym, ap, ◌∙◌, arith, length, drop, option_map}
 use Rattle.std.proofs.lemmas.List.{drop_all}
 use Rattle.idl_meaning.specs.Scopes.{number_from}
 use Rattle.idl_meaning.specs.Faults.{param_of}
-use Rattle.idl_names.specs.declared.parameters.Numbered.{Numbered}
 use Rattle.idl_names.specs.Parameters.{number_of, param_in}
 use Rattle.idl_names.proofs.Numbering.{numbers-more, params-more}
 use Rattle.idl_names.proofs.parameters.by_name.Goals as goal

@@ -1,4 +1,4 @@
-use Rattle.std.proofs.Common.{◌≡◌, ◌≤◌, drop, length, find}
+use Rattle.std.proofs.Common.{◌≡◌, ◌≤◌, drop, length}
 use Rattle.idl_meaning.specs.Scopes.{number_from}
 use Rattle.idl_meaning.specs.Faults.{param_of}
 use Rattle.idl_names.specs.Parameters.{numbers_of, params_of}

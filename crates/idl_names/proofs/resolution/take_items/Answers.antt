@@ -1,4 +1,4 @@
-use Rattle.std.proofs.Common.{◌≡◌, ℕ, suc, List, ◌∷◌, length, drop, drop-cons, sym, ap, ◌∙◌, subst}
+use Rattle.std.proofs.Common.{◌≡◌, suc, List, ◌∷◌, drop, drop-cons, sym, ap, ◌∙◌, subst}
 use Rattle.idl_grammar.specs.declared.tree.Item.{Item}
 use Rattle.idl_meaning.specs.Scopes as scopes
 use Rattle.idl_meaning.specs.Faults as spec
