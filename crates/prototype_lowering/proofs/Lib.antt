@@ -4,3 +4,6 @@ pub mod ScopeFacts
 pub mod TableLaw
 pub mod DirectoryLaws
 pub mod Validity
+pub mod LoweredLists
+pub mod Entries
+pub mod Numbered

@@ -4,8 +4,13 @@
 //! written.
 #![tactic(auto)]
 
+mod directory;
+mod interfaces;
 pub mod laws;
 mod lower_error;
+mod marks;
+mod members;
+mod numbering;
 mod param_flags;
 mod param_types;
 

@@ -17,7 +17,7 @@ pub(crate) fn bit(bit: u8, set: bool) -> u8
 }
 
 /// Whether a type is a string class.
-fn is_class(ty: &Meant) -> bool
+pub(crate) fn is_class(ty: &Meant) -> bool
     ensures { result ≡ meaning.is_class ty.now }
 {
     matches!(ty, Meant::StringClass(_))
@@ -54,17 +54,24 @@ fn is_dipper(dir: Dir, class: bool) -> bool
     }
 }
 
+/// The flags of a parameter of this direction, whose type is a string class or not.
+pub(crate) fn flags_by(dir: Dir, class: bool, retval: bool, shared: bool, optional: bool) -> ParamFlags
+    ensures { result ≡ record { bits = lowering.param_flags (lowering.goes_in dir class) (lowering.goes_out dir class) retval shared (lowering.is_dipper dir class) optional } }
+{
+    ParamFlags {
+        bits: bit(ParamFlags::IN.bits, goes_in(dir, class))
+            + bit(ParamFlags::OUT.bits, goes_out(dir, class))
+            + bit(ParamFlags::RETVAL.bits, retval)
+            + bit(ParamFlags::SHARED.bits, shared)
+            + bit(ParamFlags::DIPPER.bits, is_dipper(dir, class))
+            + bit(ParamFlags::OPTIONAL.bits, optional),
+    }
+}
+
 /// The flags of a parameter.
 pub(crate) fn flags_of(param: &ScopeParam) -> ParamFlags
     ensures { result ≡ record { bits = lowering.flags_of param.now } }
 {
     let class = is_class(&param.ty);
-    ParamFlags {
-        bits: bit(ParamFlags::IN.bits, goes_in(param.dir, class))
-            + bit(ParamFlags::OUT.bits, goes_out(param.dir, class))
-            + bit(ParamFlags::RETVAL.bits, param.retval)
-            + bit(ParamFlags::SHARED.bits, param.shared)
-            + bit(ParamFlags::DIPPER.bits, is_dipper(param.dir, class))
-            + bit(ParamFlags::OPTIONAL.bits, param.optional),
-    }
+    flags_by(param.dir, class, param.retval, param.shared, param.optional)
 }
