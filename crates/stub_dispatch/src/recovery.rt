@@ -37,8 +37,12 @@ pub fn recover<C: Convention>(
         result
         (λ _. places.stack_len_of C.CONV (types_of (prototype method.now)) ≤ length frame.now.stack)
         (λ short. IsShort C.CONV (types_of (prototype method.now)) frame.now short) }
-    ensures received { OnOk result (cells.new ≡ received_cells C.CONV (prototype method.now) frame.now) }
-    ensures canonical { OnOk result (GivesCanonical C.CONV (prototype method.now) frame.now cells.new) }
+    ensures received { OnOk
+        result
+        (cells.new ≡ received_cells C.CONV (prototype method.now) frame.now) }
+    ensures canonical { OnOk
+        result
+        (GivesCanonical C.CONV (prototype method.now) frame.now cells.new) }
     ensures err { OnErr result (cells.new ≡ cells.old) }
 {
     let needs = stack_len::<C>(method);
@@ -53,7 +57,8 @@ pub fn recover<C: Convention>(
 /// Takes each value from its place. The stack has the bytes that the arguments need.
 fn recover_each<C: Convention>(frame: &Frame, method: &MethodView<'_>, cells: &mut [u64])
     requires paired { length cells.old ≡ length (prototype method.now) }
-    requires enough { places.stack_len_of C.CONV (types_of (prototype method.now)) ≤ length frame.now.stack }
+    requires enough { places.stack_len_of C.CONV (types_of (prototype method.now))
+        ≤ length frame.now.stack }
     ensures { cells.new ≡ received_cells C.CONV (prototype method.now) frame.now }
 {
     let conv = C::CONV;
