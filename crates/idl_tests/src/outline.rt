@@ -1,0 +1,200 @@
+//! The outline of a tree: what it holds, in words.
+
+use idl_grammar::{
+    Attr, AttrValue, Expr, ExprStep, IdlFile, Interface, ItemBody, Member, MemberBody, ParamDecl,
+    TypeName,
+};
+use std::alloc::Global;
+use xp_base::{Bytes, Dir, Memory, dec_text};
+
+/// The name of a type, in the words of the tree.
+fn type_text(of: &TypeName) -> &[u8] {
+    match of {
+        TypeName::Void => b"Void",
+        TypeName::Boolean => b"Boolean",
+        TypeName::Octet => b"Octet",
+        TypeName::Short => b"Short",
+        TypeName::Long => b"Long",
+        TypeName::LongLong => b"LongLong",
+        TypeName::UShort => b"UShort",
+        TypeName::ULong => b"ULong",
+        TypeName::ULongLong => b"ULongLong",
+        TypeName::Float => b"Float",
+        TypeName::Double => b"Double",
+        TypeName::Char => b"Char",
+        TypeName::WChar => b"WChar",
+        TypeName::CString => b"CString",
+        TypeName::WString => b"WString",
+        TypeName::Named(name) => name.as_slice(),
+    }
+}
+
+/// An operand, or the name of an operator.
+fn step_text(step: &ExprStep) -> &[u8] {
+    match step {
+        ExprStep::Number(text) => text.as_slice(),
+        ExprStep::Name(text) => text.as_slice(),
+        ExprStep::Neg => b"Neg",
+        ExprStep::Or => b"Or",
+        ExprStep::Shl => b"Shl",
+        ExprStep::Shr => b"Shr",
+        ExprStep::Add => b"Add",
+        ExprStep::Sub => b"Sub",
+        ExprStep::Mul => b"Mul",
+    }
+}
+
+fn direction_text(dir: Dir) -> &'static [u8] {
+    match dir {
+        Dir::Inward => b"Inward",
+        Dir::Outward => b"Outward",
+        Dir::Both => b"Both",
+    }
+}
+
+/// Adds a word, with a space before it.
+fn add(outline: &mut Bytes, word: &[u8]) -> Result<(), Memory> {
+    outline.append(b" ")?;
+    outline.append(word)
+}
+
+/// Adds a line feed and the number of a line.
+fn add_line(alloc: Global, outline: &mut Bytes, line: u32) -> Result<(), Memory> {
+    let number = dec_text(alloc, line as i128)?;
+    outline.append(b"\n")?;
+    outline.append(number.as_slice())?;
+    outline.append(b":")
+}
+
+/// What stands in parentheses behind an attribute's name, as a word or two.
+fn value_words<'a>(value: &'a AttrValue) -> (&'static [u8], &'a [u8]) {
+    match value {
+        AttrValue::Absent => (b"", b""),
+        AttrValue::Word(name) => (b"word", name.as_slice()),
+        AttrValue::Iid(text) => (b"iid", text.as_slice()),
+    }
+}
+
+fn add_attributes(outline: &mut Bytes, attrs: &[Attr]) -> Result<(), Memory> {
+    for attr in attrs {
+        let (kind, value) = value_words(&attr.value);
+        outline.append(b" @")?;
+        outline.append(attr.name.as_slice())?;
+        if !kind.is_empty() {
+            add(outline, kind)?;
+            add(outline, value)?;
+        }
+    }
+    Ok(())
+}
+
+fn add_params(outline: &mut Bytes, params: &[ParamDecl]) -> Result<(), Memory> {
+    for param in params {
+        outline.append(b",")?;
+        add_attributes(outline, param.attrs.as_slice())?;
+        add(outline, direction_text(param.dir))?;
+        add(outline, type_text(&param.of))?;
+        add(outline, param.name.as_slice())?;
+    }
+    Ok(())
+}
+
+fn add_steps(outline: &mut Bytes, value: &Expr) -> Result<(), Memory> {
+    for step in value.steps.as_slice() {
+        add(outline, step_text(step))?;
+    }
+    Ok(())
+}
+
+fn add_member(outline: &mut Bytes, body: &MemberBody) -> Result<(), Memory> {
+    match body {
+        MemberBody::Code => add(outline, b"code"),
+        MemberBody::Constant { of, name, value } => {
+            add(outline, b"const")?;
+            add(outline, type_text(of))?;
+            add(outline, name.as_slice())?;
+            add(outline, b"=")?;
+            add_steps(outline, value)
+        }
+        MemberBody::Attribute {
+            attrs,
+            readonly,
+            of,
+            name,
+        } => {
+            add_attributes(outline, attrs.as_slice())?;
+            let verb: &[u8] = if *readonly { b"readonly" } else { b"writable" };
+            add(outline, verb)?;
+            add(outline, type_text(of))?;
+            add(outline, name.as_slice())
+        }
+        MemberBody::Method {
+            attrs,
+            of,
+            name,
+            params,
+        } => {
+            add_attributes(outline, attrs.as_slice())?;
+            add(outline, b"method")?;
+            add(outline, type_text(of))?;
+            add(outline, name.as_slice())?;
+            add_params(outline, params.as_slice())
+        }
+    }
+}
+
+fn add_members(alloc: Global, outline: &mut Bytes, members: &[Member]) -> Result<(), Memory> {
+    for member in members {
+        add_line(alloc, outline, member.line)?;
+        add_member(outline, &member.body)?;
+    }
+    Ok(())
+}
+
+fn add_interface(alloc: Global, outline: &mut Bytes, i: &Interface) -> Result<(), Memory> {
+    add_attributes(outline, i.attrs.as_slice())?;
+    add(outline, b"interface")?;
+    add(outline, i.name.as_slice())?;
+    if let Some(parent) = &i.parent {
+        add(outline, b":")?;
+        add(outline, parent.as_slice())?;
+    }
+    add_members(alloc, outline, i.members.as_slice())
+}
+
+fn add_item(alloc: Global, outline: &mut Bytes, body: &ItemBody) -> Result<(), Memory> {
+    match body {
+        ItemBody::Include(name) => {
+            add(outline, b"include")?;
+            add(outline, name.as_slice())
+        }
+        ItemBody::Code => add(outline, b"code"),
+        ItemBody::Typedef { of, name } => {
+            add(outline, b"typedef")?;
+            add(outline, type_text(of))?;
+            add(outline, name.as_slice())
+        }
+        ItemBody::Native { attrs, name, text } => {
+            add_attributes(outline, attrs.as_slice())?;
+            add(outline, b"native")?;
+            add(outline, name.as_slice())?;
+            add(outline, b"is")?;
+            add(outline, text.as_slice())
+        }
+        ItemBody::Forward { name } => {
+            add(outline, b"forward")?;
+            add(outline, name.as_slice())
+        }
+        ItemBody::Interface(interface) => add_interface(alloc, outline, interface),
+    }
+}
+
+/// A line for each item and for each member: its line, and what it is.
+pub fn outline(alloc: Global, file: &IdlFile) -> Result<Bytes, Memory> {
+    let mut outline = Bytes::new(alloc);
+    for item in file.items.as_slice() {
+        add_line(alloc, &mut outline, item.line)?;
+        add_item(alloc, &mut outline, &item.body)?;
+    }
+    Ok(outline)
+}
