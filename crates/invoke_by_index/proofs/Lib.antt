@@ -1,3 +1,4 @@
 pub mod CellValues
 pub mod Filled
+pub mod Parameters
 pub mod Prototypes

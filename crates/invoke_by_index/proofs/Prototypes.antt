@@ -1,5 +1,5 @@
 -- The types of a prototype, one argument after the other.
-use Rattle.std.proofs.Common.{◌≡◌, ℕ, ◌+◌, ◌-◌, List, [], ◌∷◌, ◌++◌, length, map, take, ◌≤◌, refl, sym, ap, ◌∙◌, subst, arith, length-append, append_assoc}
+use Rattle.std.proofs.Common.{◌≡◌, ℕ, ◌+◌, ◌-◌, List, [], ◌∷◌, ◌++◌, length, map, take, ◌≤◌, sym, ap, ◌∙◌, subst, arith}
 use Rattle.std.proofs.lemmas.List.{length-map, map-append, take_at, get_or-append_right}
 use Rattle.call_model.specs.declared.ctypes.CType.{CType}
 use Rattle.call_model.specs.declared.ctypes.CType.TheVariants.{I8, Ptr}

@@ -1,9 +1,9 @@
-use Rattle.std.proofs.Common.{◌≡◌, ◌+◌, ◌*◌, ◌<◌, ◌≤◌, [], ◌∷◌, ◌++◌, length, refl, sym, subst, ap, ◌∙◌, arith, append_assoc}
+use Rattle.std.proofs.Common.{◌≡◌, ◌+◌, ◌*◌, ◌≤◌, [], ◌∷◌, ◌++◌, length, refl, sym, subst, ap, ◌∙◌, arith, append_assoc}
 use Rattle.std.proofs.lemmas.List.{append-nil, length_push}
 use Rattle.call_model.specs.declared.ctypes.CType.TheVariants.{Ptr}
 use Rattle.call_model.specs.Placement.{place, space_of, stack_len_of, IsWithin}
 use Rattle.call_model.specs.Prototype.{types_of}
-use Rattle.call_model.specs.Values.{FrameView, arguments, canon, canon_all, placed}
+use Rattle.call_model.specs.Values.{arguments, canon, canon_all}
 use Rattle.call_model.proofs.Conforming.{length-canon_all}
 use Rattle.object_memory.specs.Frames.{zero_frame}
 use Rattle.object_memory.specs.Lends.{with_frame}
