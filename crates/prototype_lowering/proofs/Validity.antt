@@ -56,12 +56,12 @@ together : {A : Type 0} (P Q : A → Type 0) (xs : List A) → AllByRecursion P 
 together P Q [] h k = tt
 together P Q (x ∷ xs) h k = ((h.0, k.0), together P Q xs h.1 k.1)
 
-some_within : {A : Type 0} (P : A → Type 0) (xs : List A) (n : ℕ) → IsSomeAnd (slice_get xs n) P → n < length xs
+pub some_within : {A : Type 0} (P : A → Type 0) (xs : List A) (n : ℕ) → IsSomeAnd (slice_get xs n) P → n < length xs
 some_within P [] n h = absurd h
 some_within P (x ∷ xs) zero h = omega arith
 some_within P (x ∷ xs) (suc n) h = omega (arith, some_within P xs n h)
 
-no_first : (a b : Bool) → (a || b) ≡ false → a ≡ false
+pub no_first : (a b : Bool) → (a || b) ≡ false → a ≡ false
 no_first true b h = h
 no_first false b h = refl
 
