@@ -44,6 +44,7 @@ filter_more {X} g xs i within = ap (λ n. filter_map g (take n xs)) (let e : i +
     joined : (o : Option X) (ys zs : List X) → cons_option o (ys ++ zs) ≡ cons_option o ys ++ zs
     joined None ys zs = refl
     joined (Some x) ys zs = refl
+
     go : (xs : List ℕ) (i : ℕ) → i < length xs → filter_map g (take (suc i) xs) ≡ filter_map g (take i xs) ++ cons_option (g (get_or xs i 0)) []
     go [] i h = absurd (omega (arith, h))
     go (y ∷ ys) zero h = refl

@@ -1,6 +1,5 @@
 -- What a typelib has no room for, as it is tested.
-use Rattle.std.proofs.Common.{◌≡◌, ℕ, suc, ◌+◌, ◌-◌, ◌<◌, ◌≤◌, ◌||◌, Bool, true, false, List, [], ◌∷◌, ◌++◌, length, get_or, min, Option, Some, None, refl, sym, ap, ◌∙◌, arith, nat_lt, lt-ltb, le-ltb, ltb-true, ltb-false, length-append, slice_get}
-use Rattle.std.proofs.lemmas.Option.{slice_get-get_or, slice_get_past}
+use Rattle.std.proofs.Common.{◌≡◌, ℕ, ◌+◌, ◌-◌, ◌<◌, ◌≤◌, Bool, true, false, List, ◌++◌, length, min, Option, refl, sym, ◌∙◌, arith, nat_lt, lt-ltb, le-ltb, ltb-true, ltb-false, length-append}
 use Rattle.idl_meaning.specs.declared.scope.Meant.{Meant}
 use Rattle.idl_meaning.specs.declared.scope.ScopeParam.{ScopeParam}
 use Rattle.vtable_layout.specs.Slots.{given}

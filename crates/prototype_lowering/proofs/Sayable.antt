@@ -1,6 +1,6 @@
 -- A scope whose methods have few parameters can be said by a library.
-use Rattle.std.proofs.Common.{◌≡◌, ℕ, zero, suc, ◌+◌, ◌<◌, ◌≤◌, Bool, true, false, List, [], ◌∷◌, ◌++◌, length, get_or, Option, Some, None, IfSome, IsSomeAnd, refl, sym, ap, subst, ◌∙◌, arith, ltb-false, length-append, slice_get, All, nat_lt, option_and_then}
-use Rattle.std.specs.List.{AllByRecursion, list_any}
+use Rattle.std.proofs.Common.{◌≡◌, ℕ, ◌<◌, ◌≤◌, Bool, true, false, List, ◌++◌, length, get_or, Option, Some, None, IfSome, sym, ap, ◌∙◌, arith, ltb-false, length-append, slice_get, All, nat_lt, option_and_then}
+use Rattle.std.specs.List.{list_any}
 use Rattle.std.proofs.lemmas.Option.{slice_get-get_or}
 use Rattle.idl_meaning.specs.declared.scope.Meant.{Meant}
 use Rattle.idl_meaning.specs.declared.scope.Meant.TheVariants as meant
@@ -8,12 +8,11 @@ use Rattle.idl_meaning.specs.declared.scope.Scope.{Scope}
 use Rattle.idl_meaning.specs.declared.scope.ScopeBody.{ScopeBody}
 use Rattle.idl_meaning.specs.declared.scope.ScopeBody.TheVariants as body
 use Rattle.idl_meaning.specs.declared.scope.ScopeIface.{ScopeIface}
-use Rattle.idl_meaning.specs.declared.scope.ScopeMember.{ScopeMember}
 use Rattle.idl_meaning.specs.declared.scope.ScopeParam.{ScopeParam}
 use Rattle.idl_meaning.specs.Meaning.{is_iid, is_integer}
 use Rattle.vtable_layout.specs.Slots.{given, slots_in}
 use Rattle.prototype_lowering.specs.Limits.{NoneIsWide, is_wide_found, is_wide_slot}
-use Rattle.prototype_lowering.specs.Lowerable.{IsDefinedAt, IsLowerable, IsLowerableBody, IsLowerableIface, IsLowerableMember, IsLowerableParam, IsMeaning, IsSingle, IsSingleAt}
+use Rattle.prototype_lowering.specs.Lowerable.{IsDefinedAt, IsLowerable, IsLowerableBody, IsLowerableIface, IsLowerableParam, IsMeaning, IsSingle, IsSingleAt}
 use Rattle.prototype_lowering.specs.Numbering.{IsKnown, IsSayable, IsSayableBody, IsSayableIface, IsSmall}
 use Rattle.prototype_lowering.proofs.Validity.{no_first, some_within}
 

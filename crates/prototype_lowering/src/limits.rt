@@ -41,9 +41,12 @@ fn is_wide(member: &ScopeMember) -> bool
     match &member.body {
         ScopeBody::Constant { .. } => false,
         ScopeBody::Attribute { .. } => false,
-        ScopeBody::Method { notxpcom, result, params, .. } => {
-            params.len() > MAX_PARAMS - given_count(*notxpcom, result)
-        }
+        ScopeBody::Method {
+            notxpcom,
+            result,
+            params,
+            ..
+        } => { params.len() > MAX_PARAMS - given_count(*notxpcom, result) }
     }
 }
 
@@ -101,7 +104,10 @@ fn iface_items(iface: &Iface) -> u32
     ensures { result ≡ min 1000001 (valid.iface_items iface.now) }
 {
     match &iface.body {
-        Some(body) => capped(capped(method_items(body.methods.as_slice()), body.constants.len()), 1),
+        Some(body) => capped(
+            capped(method_items(body.methods.as_slice()), body.constants.len()),
+            1,
+        ),
         None => 1,
     }
 }

@@ -1,4 +1,4 @@
-use Rattle.std.proofs.Common.{◌≡◌, ◌<◌, ◌++◌, ℕ, List, All, length, get_or, map, drop, take, nat_eq, slice_get, slice_index, refl, sym, ap, subst, ◌∙◌, arith}
+use Rattle.std.proofs.Common.{◌≡◌, ◌<◌, ℕ, List, All, length, get_or, map, drop, nat_eq, slice_get, slice_index, sym, ap, subst, ◌∙◌, arith}
 use Rattle.std.specs.List.{filter_map, position_or_len}
 use Rattle.prototype_lowering.specs.Directory.{directory_of, number}
 use Rattle.prototype_lowering.specs.Lowering.{iface_of, library_of}
@@ -38,9 +38,9 @@ returns c =
     in let numbers : c.as_slice-3.result.now ≡ c.write_numbers.new.numbers = c.as_slice-3.ensures.value ∙ take_written c.write_numbers.new.numbers (drop (length c.write_numbers.new.numbers) c.in_ok-numbers.numbers.items) c.in_ok-numbers.numbers.len long
     in let many : length c.as_slice-3.result.now ≡ length c.args.scope.now.ifaces = omega (arith, c.as_slice-3.ensures.len, c.in_ok-numbers.ensures.len, c.len.ensures, ap length order, length_directory c.args.scope.now.ifaces c.requires.lowerable.own_names)
     in let numbering : IsNumberingOf (directory_of c.args.scope.now.ifaces) c.as_slice-3.result.now = λ k h.
-      ap (λ (ns : List ℕ). slice_index ns k) numbers
-      ∙ c.write_numbers.ensures k (subst (λ (xs : List ℕ). position_or_len (nat_eq k) xs < length xs) (sym written) (in_directory c.args.scope.now.ifaces c.requires.lowerable.own_names k (omega (arith, h, many))))
-      ∙ ap (λ (d : List ℕ). number d k) written
+    ap (λ (ns : List ℕ). slice_index ns k) numbers
+    ∙ c.write_numbers.ensures k (subst (λ (xs : List ℕ). position_or_len (nat_eq k) xs < length xs) (sym written) (in_directory c.args.scope.now.ifaces c.requires.lowerable.own_names k (omega (arith, h, many))))
+    ∙ ap (λ (d : List ℕ). number d k) written
     in λ j. record {
       ifaces = (c.in_ok-ifaces.ensures (directory_of c.args.scope.now.ifaces) numbering ∙ ap (λ (o : List ℕ). map (iface_of (directory_of c.args.scope.now.ifaces)) (filter_map (slice_get c.args.scope.now.ifaces) o)) (c.as_slice-4.ensures ∙ order)) j;
     }
