@@ -15,6 +15,3 @@ pub use script::{
     Act, ArgWord, EnterItem, Fill, Front, Line, MemberRef, MemberWord, ReplyItem, Script, Target,
     Term, ValueWord,
 };
-
-#[cfg(test)]
-mod tests;

@@ -13,10 +13,10 @@ use crate::error::{ScriptError, Unread};
 use crate::script::{Front, Line, Script};
 use crate::texts::{is_plain, joined, next_line, words};
 use std::alloc::Global;
-use xp_base::{List, Memory};
+use xp_base::{List, MAX_TEXT, Memory};
 
 /// The longest script, in bytes.
-pub const MAX_SCRIPT: usize = 1_048_576;
+pub const MAX_SCRIPT: usize = MAX_TEXT;
 
 /// The script that the bytes spell, which is at most one.
 ///
@@ -26,7 +26,7 @@ pub const MAX_SCRIPT: usize = 1_048_576;
 ///
 /// `Fault` names the first line that has no reading; where each line has one, it never comes. `Memory` is free.
 pub fn read_script(alloc: Global, bytes: &[u8]) -> Result<Script, ScriptError>
-    requires { length bytes.now ≤ 1048576 }
+    requires { length bytes.now ≤ MAX_TEXT }
     ensures ok { IfOk result (λ script. IsScript bytes.now script) }
     ensures only { (script : spelled.Script) → IsScript bytes.now script → (result ≡ Ok script) ⊎ (result ≡ Err ScriptError.Memory) }
     ensures err { IfErr result (Blames bytes.now) }
@@ -41,7 +41,7 @@ pub fn read_script(alloc: Global, bytes: &[u8]) -> Result<Script, ScriptError>
 /// The script that the front of the bytes spells: all lines, or those before the first that has no reading, and the
 /// number of that line. Lines are those of `read_script`. The one error is want of memory.
 pub fn read_front(alloc: Global, bytes: &[u8]) -> Result<Front, Memory>
-    requires { length bytes.now ≤ 1048576 }
+    requires { length bytes.now ≤ MAX_TEXT }
     ensures { IfOk result (λ front. ReadsUpTo 1 (lines bytes.now) front.script.lines front.fault) }
 {
     let mut lines = List::new(alloc);

@@ -1,3 +1,4 @@
+pub mod ArgLaws
 pub mod MethodLaws
 pub mod PrototypeLaws
 pub mod SearchLaws

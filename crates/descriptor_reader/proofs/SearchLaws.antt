@@ -25,12 +25,12 @@ front_kept [] ys j v e = cc
 front_kept (x ∷ xs) ys zero v e = e
 front_kept (x ∷ xs) ys (suc j) v e = front_kept xs ys j v e
 
-front_same : {A : Type 0} (xs ys : List A) (j : ℕ) → j < length xs → slice_get (xs ++ ys) j ≡ slice_get xs j
+pub front_same : {A : Type 0} (xs ys : List A) (j : ℕ) → j < length xs → slice_get (xs ++ ys) j ≡ slice_get xs j
 front_same [] ys j low = absurd (omega (arith, low))
 front_same (x ∷ xs) ys zero low = refl
 front_same (x ∷ xs) ys (suc j) low = front_same xs ys j (omega (arith, low))
 
-behind_front : {A : Type 0} (xs ys : List A) (j k : ℕ) → j ≡ length xs + k → slice_get (xs ++ ys) j ≡ slice_get ys k
+pub behind_front : {A : Type 0} (xs ys : List A) (j k : ℕ) → j ≡ length xs + k → slice_get (xs ++ ys) j ≡ slice_get ys k
 behind_front [] ys j k e = ap (slice_get ys) (omega (arith, e))
 behind_front (x ∷ xs) ys zero k e = absurd (omega (arith, e))
 behind_front (x ∷ xs) ys (suc j) k e = behind_front xs ys j k (omega (arith, e))
@@ -58,7 +58,7 @@ methods_none ifaces zero = refl
 methods_none ifaces (suc n) = omega (arith, length-append (methods_within ifaces n 0) [], methods_none ifaces n)
 
 -- a chain has as many methods as slots
-methods_counted : (ifaces : List Iface) (n k : ℕ) → length (methods_within ifaces n k) ≡ slots_within ifaces n k
+pub methods_counted : (ifaces : List Iface) (n k : ℕ) → length (methods_within ifaces n k) ≡ slots_within ifaces n k
 unfolding methods_within first_of_chain
 methods_counted ifaces zero k = refl
 methods_counted ifaces (suc n) zero = methods_none ifaces (suc n)

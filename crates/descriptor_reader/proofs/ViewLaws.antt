@@ -4,31 +4,35 @@ use Rattle.std.specs.Prelude.{All, map, is_some, option_map, ◌&&◌}
 use Rattle.std.specs.List.{list_any, position, position_or_len}
 use Rattle.std.specs.Str.{bytes_eq}
 use Rattle.std.proofs.lemmas.Bool.Decides.{eqb_tells}
+use Rattle.std.proofs.lemmas.List.{length-map}
 use Rattle.std.proofs.lemmas.List.Folds.{list_any_at, list_any_none}
 use Rattle.std.proofs.lemmas.List.Sums.{position_or_len_is}
 use Rattle.std.proofs.lemmas.Option.{get_or_from_slice_get, slice_get_past}
 use Rattle.call_model.specs.declared.prototypes.MemberKind.{MemberKind}
-use Rattle.call_model.specs.Tables.{member_of, member_within}
+use Rattle.call_model.specs.Tables.{descends_from, end_slot, first_slot, member_of, member_within}
+use Rattle.call_model.specs.Tables as tables
 use Rattle.lib_model.specs.declared.contents.Iface.{Iface}
 use Rattle.lib_model.specs.declared.contents.Body.{Body}
 use Rattle.lib_model.specs.declared.contents.Method.{Method}
 use Rattle.lib_model.specs.Denotes.{word_at}
 use Rattle.lib_model.specs.declared.contents.Library.{Library}
-use Rattle.lib_model.specs.Table.{methods_of, methods_within, table_iface, table_of}
+use Rattle.lib_model.specs.Table.{methods_of, methods_within, slot_of, table_iface, table_of}
 use Rattle.lib_model.specs.Valid.{IsChain, IsMethod, IsValid, body_of, chain_of, first_of_chain, own_slots, parent_in, parent_of}
+use Rattle.lib_model.proofs.TableLaws.{lineage_of_table, parent_in_table, slots_of_table}
 use Rattle.typelib_faults.specs.Climbs.{climbed, meets, slots_within}
 use Rattle.typelib_faults.specs.declared.cursor.Cursor.{Cursor}
 use Rattle.typelib_faults.specs.Bytes.{AreBytes}
 use Rattle.typelib_faults.specs.Faults.{body_fault, chain_fault, directory_cursor, entry_fault, entry_next, first_fault, header_fault, item_fault, method_fault, name_fault, namespace_fault}
 use Rattle.typelib_faults.specs.Laws.{IsFine}
 use Rattle.typelib_faults.specs.Places.{body_at, count_of, directory_of, entries_of, entry_at, entry_end, library_of, method_at, method_end, name_at}
-use Rattle.descriptor_reader.specs.Views.{descends_from, entry_after, first_number, has_iid, in_slots, is_named, nth_iface, numbered}
+use Rattle.descriptor_reader.specs.Views.{entry_after, first_number, has_iid, in_slots, is_named, nth_iface, numbered}
 use Rattle.typelib_faults.specs.Walk.{reach, values}
 use Rattle.typelib_faults.proofs.ChainLaws.{known_body, long_chain, short_chain, slots_end, slots_on}
 use Rattle.typelib_faults.proofs.EntryLaws.{directory_fault, reach_entry}
 use Rattle.typelib_faults.proofs.MemberLaws.{method_sound}
 use Rattle.typelib_faults.proofs.TypelibLaws.{chain_sound, chains_fault, fine_denotes}
 use Rattle.typelib_faults.proofs.WalkFacts.{length_values, numbers_none, parts3, parts4, reach_place, values_get, walk_at}
+use Rattle.descriptor_reader.proofs.SearchLaws.{methods_counted}
 
 pub directory_known : (x : List ℕ) → IsFine x → directory_fault x ≡ None
 unfolding first_fault
@@ -211,14 +215,37 @@ alone ifaces n zero from some none = absurd (some refl)
 alone ifaces n (suc k) from some none = rw none (or_false (eqb (suc k) from))
 
 -- the number of no interface has no parent
-pub past_alone : (x : List ℕ) (k from : ℕ) → count_of x < k → descends_from (library_of x) k from ≡ eqb k from
-past_alone x zero from over = absurd (omega (arith, over))
-past_alone x (suc k) from over =
+chain_past : (x : List ℕ) (k from : ℕ) → count_of x < k → list_any (λ (n : ℕ). eqb n from) (chain_of (library_of x).ifaces k) ≡ eqb k from
+chain_past x zero from over = absurd (omega (arith, over))
+chain_past x (suc k) from over =
     let none : parent_of (library_of x).ifaces (suc k) ≡ 0 = ap (λ (o : Option Iface). parent_in (option_and_then (λ (i : Iface). i.body) o)) (slice_get_past (library_of x).ifaces k (omega (arith, over, library_long x)))
     in alone (library_of x).ifaces 249 (suc k) from (omega arith) none
 
-pub meets_is : (x : List ℕ) (k from : ℕ) → meets (entries_of x) from 251 k ≡ descends_from (library_of x) k from
-meets_is x k from = ap (λ (ifaces : List Iface). meets ifaces from 251 k) (sym (library_entries x))
+descends_is : (x : List ℕ) (k from : ℕ) → descends_from (table_of (library_of x)) k from ≡ list_any (λ (n : ℕ). eqb n from) (chain_of (library_of x).ifaces k)
+descends_is x k from = ap (list_any (λ (n : ℕ). eqb n from)) (lineage_of_table (library_of x) k)
+
+pub past_alone : (x : List ℕ) (k from : ℕ) → count_of x < k → descends_from (table_of (library_of x)) k from ≡ eqb k from
+past_alone x k from over = descends_is x k from ∙ chain_past x k from over
+
+pub meets_is : (x : List ℕ) (k from : ℕ) → meets (entries_of x) from 251 k ≡ descends_from (table_of (library_of x)) k from
+meets_is x k from = ap (λ (ifaces : List Iface). meets ifaces from 251 k) (sym (library_entries x)) ∙ sym (descends_is x k from)
+
+-- ---- slots
+
+pub end_slot_is : (x : List ℕ) (k : ℕ) → slots_within (entries_of x) 250 k ≡ end_slot (table_of (library_of x)) k
+end_slot_is x k =
+    let lib : Library = library_of x
+    in ap (λ (ifaces : List Iface). slots_within ifaces 250 k) (sym (library_entries x))
+    ∙ (sym (methods_counted lib.ifaces 250 k) ∙ (sym (length-map (methods_of lib k) slot_of) ∙ ap length (sym (slots_of_table lib k))))
+
+-- the table's parent of an interface is the library's
+parent_told : (lib : Library) (k : ℕ) → parent_of lib.ifaces k ≡ tables.parent_of (table_of lib) k
+unfolding table_of
+parent_told lib k = sym (parent_in_table lib.ifaces k)
+
+pub first_slot_is : (x : List ℕ) (k parent : ℕ) → parent ≡ parent_of (entries_of x) k → slots_within (entries_of x) 250 parent ≡ first_slot (table_of (library_of x)) k
+first_slot_is x k parent is =
+    end_slot_is x parent ∙ ap (end_slot (table_of (library_of x))) (is ∙ (parent_is x k ∙ parent_told (library_of x) k))
 
 -- ---- members
 

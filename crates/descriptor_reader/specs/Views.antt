@@ -1,7 +1,8 @@
 -- What the views of a library stand for, and what they are asked.
-use Rattle.std.specs.Prelude.{ℕ, zero, suc, ◌+◌, ◌==◌, ◌*◌, Bool, ◌&&◌, is_some, option_map, List, [], ◌∷◌, length, slice_get, Option, Some, None, sum_by, if◌then◌else◌, nat_lt}
-use Rattle.std.specs.List.{list_any, position}
+use Rattle.std.specs.Prelude.{ℕ, zero, suc, ◌+◌, ◌*◌, Bool, ◌&&◌, is_some, option_map, List, [], ◌∷◌, length, slice_get, Option, Some, None, if◌then◌else◌, nat_lt}
+use Rattle.std.specs.List.{position}
 use Rattle.std.specs.Str.{bytes_eq}
+use Rattle.call_model.specs.Tables.{first_slot}
 use Rattle.lib_model.specs.declared.contents.Library.{Library}
 use Rattle.lib_model.specs.declared.contents.Body.{Body}
 use Rattle.lib_model.specs.declared.contents.Iface.{Iface}
@@ -10,8 +11,8 @@ use Rattle.lib_model.specs.declared.flags.IfaceFlags.{IfaceFlags}
 use Rattle.lib_model.specs.declared.contents.Method.{Method}
 use Rattle.typelib_faults.specs.declared.cursor.Cursor.{Cursor}
 use Rattle.typelib_faults.specs.Places.{directory_of, entry_at}
-use Rattle.lib_model.specs.Table.{methods_in}
-use Rattle.lib_model.specs.Valid.{body_of, chain_of, own_slots, parent_of}
+use Rattle.lib_model.specs.Table.{methods_in, table_of}
+use Rattle.lib_model.specs.Valid.{body_of}
 
 -- the cursor at a place, with no items before it
 abbrev pub first_at : ℕ → Cursor
@@ -41,10 +42,6 @@ numbered lib zero = None
 numbered lib (suc k) =
     if nat_lt k (length lib.ifaces) then Some (record { library = lib; number = suc k }) else None
 
--- one past the last slot of an interface: its slots are those of its chain of parents
-abbrev pub end_slot_of : IfaceOf → ℕ
-end_slot_of v = sum_by (own_slots v.library.ifaces) (chain_of v.library.ifaces v.number)
-
 -- a resolved interface of this name, and of this identifier
 abbrev pub is_named : List ℕ → Iface → Bool
 is_named name i = is_some i.body && bytes_eq i.name name
@@ -59,14 +56,6 @@ first_number test lib = option_map (λ k. k + 1) (position test lib.ifaces)
 -- the entry of the interface that has so many before it
 abbrev pub entry_after : List ℕ → ℕ → Iface
 entry_after x k = entry_at x (directory_of x + 28 * k)
-
--- the first own slot of an interface: as many slots stand before it as its parent has
-abbrev pub first_slot_of : IfaceOf → ℕ
-first_slot_of v = sum_by (own_slots v.library.ifaces) (chain_of v.library.ifaces (parent_of v.library.ifaces v.number))
-
--- whether an interface is this one or one of its ancestors
-abbrev pub descends_from : Library → ℕ → ℕ → Bool
-descends_from lib k from = list_any (λ n. n == from) (chain_of lib.ifaces k)
 
 -- the flags of an interface that has this body; none without one
 abbrev pub flags_in : Option Body → IfaceFlags
@@ -87,7 +76,8 @@ in_slots lib slot (m ∷ ms) =
 -- the own methods of an interface, with their slots
 abbrev pub own_methods_of : IfaceOf → List MethodOf
 own_methods_of v =
-    in_slots v.library (first_slot_of v) (methods_in (body_of v.library.ifaces v.number))
+    in_slots v.library (first_slot (table_of v.library) v.number)
+    (methods_in (body_of v.library.ifaces v.number))
 
 -- its own constants
 abbrev pub own_constants_of : IfaceOf → List Constant

@@ -7,7 +7,8 @@ use typelib_check::CheckedFile;
 use typelib_check::lengths::constant_behind;
 use typelib_faults::Cursor;
 
-/// The own constants of an interface, in order. It takes no memory of its own, and stands for those that are still to come.
+/// The own constants of an interface, in order. It takes no memory of its own, and stands for
+/// those that are still to come.
 #[derive(Drop)]
 pub struct ConstIter<'a> {
     pub(crate) checked: CheckedFile<'a>,
@@ -24,9 +25,11 @@ impl<'a> Model for ConstIter<'a> {
 
     ghost Value = { List Constant };
 
-    ghost view = { λ s. values (constant_at s.checked.file.bytes.now) (constant_end s.checked.file.bytes.now) s.at.place s.left };
+    ghost view = { λ s. values (constant_at s.checked.file.bytes.now)
+        (constant_end s.checked.file.bytes.now) s.at.place s.left };
 
-    ghost invariant = { λ s. walk (constant_fault s.checked.file.bytes.now) (constant_next s.checked.file.bytes.now) s.at s.left ≡ None };
+    ghost invariant = { λ s. walk (constant_fault s.checked.file.bytes.now)
+        (constant_next s.checked.file.bytes.now) s.at s.left ≡ None };
 }
 
 impl<'a> Iterator for ConstIter<'a> {

@@ -13,10 +13,16 @@ use typelib_check::{Constants, File};
 use typelib_faults::Cursor;
 use xp_base::ConstKind;
 
-/// The cursor of the constant of this number among these constants, counted from 0; None where there are not as many.
-pub(crate) fn constant_by_number(file: &File<'_>, constants: Constants, number: u16) -> Option<Cursor>
+/// The cursor of the constant of this number among these constants, counted from 0; None where
+/// there are not as many.
+pub(crate) fn constant_by_number(
+    file: &File<'_>,
+    constants: Constants,
+    number: u16,
+) -> Option<Cursor>
     requires { AreFineConstants file.now.bytes.now constants }
-    ensures constant { option_map (λ (c : Cursor). constant_at file.now.bytes.now c.place) result ≡ slice_get (constants_of file.now.bytes.now constants) number }
+    ensures constant { option_map (λ (c : Cursor). constant_at file.now.bytes.now c.place) result
+        ≡ slice_get (constants_of file.now.bytes.now constants) number }
     ensures fine { IfSome result (λ c. constant_fault file.now.bytes.now c ≡ None) }
 {
     if number >= constants.count {

@@ -16,15 +16,14 @@ use typelib_check::numbers::{half, word};
 use typelib_check::{CheckedFile, Constants, File, Methods};
 use typelib_faults::Cursor;
 
-/// The bits of an interface's flags that are known.
-const KNOWN: u8 = 0x80 | 0x40 | 0x20;
-
 /// The place of the descriptor of the interface of this number; None where it is not resolved.
 pub(crate) fn descriptor_place(checked: &CheckedFile<'_>, number: u16) -> Option<usize>
     requires above { 0 < number }
     requires below { number ≤ checked.now.file.count }
-    ensures fine { IfSome result (λ place. descriptor_fault checked.now.file.bytes.now (first_at place) ≡ None) }
-    ensures body { option_map (descriptor_at checked.now.file.bytes.now) result ≡ body_of (entries_of checked.now.file.bytes.now) number }
+    ensures fine { IfSome result
+        (λ place. descriptor_fault checked.now.file.bytes.now (first_at place) ≡ None) }
+    ensures body { option_map (descriptor_at checked.now.file.bytes.now) result
+        ≡ body_of (entries_of checked.now.file.bytes.now) number }
 {
     let file = &checked.file;
     let offset = word(file.bytes, place_of_entry(file, number) + DESCRIPTOR_OFFSET);
@@ -40,7 +39,8 @@ pub(crate) fn methods_of_descriptor(file: &File<'_>, place: usize) -> Methods
     ensures from { result.from ≡ first_at (place + 4) }
     ensures count { result.count ≡ half_at file.now.bytes.now (place + 2) }
     ensures fine { AreFineMethods file.now.bytes.now result }
-    ensures are { methods_of file.now.bytes.now result ≡ (descriptor_at file.now.bytes.now place).methods }
+    ensures are { methods_of file.now.bytes.now result
+        ≡ (descriptor_at file.now.bytes.now place).methods }
 {
     let count = half(file.bytes, place + 2);
     let from = Cursor {
@@ -55,7 +55,8 @@ pub(crate) fn own_methods(checked: &CheckedFile<'_>, number: u16) -> Methods
     requires above { 0 < number }
     requires below { number ≤ checked.now.file.count }
     ensures fine { AreFineMethods checked.now.file.bytes.now result }
-    ensures are { methods_of checked.now.file.bytes.now result ≡ methods_in (body_of (entries_of checked.now.file.bytes.now) number) }
+    ensures are { methods_of checked.now.file.bytes.now result
+        ≡ methods_in (body_of (entries_of checked.now.file.bytes.now) number) }
 {
     match descriptor_place(checked, number) {
         Some(place) => methods_of_descriptor(&checked.file, place),
@@ -69,10 +70,13 @@ pub(crate) fn own_methods(checked: &CheckedFile<'_>, number: u16) -> Methods
 /// The constants of the descriptor at `place`, which has no fault. They stand behind its methods.
 pub(crate) fn constants_of_descriptor(file: &File<'_>, place: usize) -> Constants
     requires { descriptor_fault file.now.bytes.now (first_at place) ≡ None }
-    ensures from { result.from ≡ constants_cursor (methods_reach file.now.bytes.now (first_at place)) }
-    ensures count { result.count ≡ half_at file.now.bytes.now (methods_reach file.now.bytes.now (first_at place)).place }
+    ensures from { result.from
+        ≡ constants_cursor (methods_reach file.now.bytes.now (first_at place)) }
+    ensures count { result.count
+        ≡ half_at file.now.bytes.now (methods_reach file.now.bytes.now (first_at place)).place }
     ensures fine { AreFineConstants file.now.bytes.now result }
-    ensures are { constants_of file.now.bytes.now result ≡ (descriptor_at file.now.bytes.now place).constants }
+    ensures are { constants_of file.now.bytes.now result
+        ≡ (descriptor_at file.now.bytes.now place).constants }
 {
     let end = methods_behind(file, methods_of_descriptor(file, place));
     let count = half(file.bytes, end.place);
@@ -88,7 +92,8 @@ pub(crate) fn own_constants(checked: &CheckedFile<'_>, number: u16) -> Constants
     requires above { 0 < number }
     requires below { number ≤ checked.now.file.count }
     ensures fine { AreFineConstants checked.now.file.bytes.now result }
-    ensures are { constants_of checked.now.file.bytes.now result ≡ constants_in (body_of (entries_of checked.now.file.bytes.now) number) }
+    ensures are { constants_of checked.now.file.bytes.now result
+        ≡ constants_in (body_of (entries_of checked.now.file.bytes.now) number) }
 {
     match descriptor_place(checked, number) {
         Some(place) => constants_of_descriptor(&checked.file, place),
@@ -109,12 +114,13 @@ pub(crate) struct Rest {
 /// What the descriptor at `place`, which has no fault, says behind its methods.
 pub(crate) fn rest_of_descriptor(file: &File<'_>, place: usize) -> Rest
     requires { descriptor_fault file.now.bytes.now (first_at place) ≡ None }
-    ensures constants { result.constant_count ≡ length (descriptor_at file.now.bytes.now place).constants }
+    ensures constants { result.constant_count
+        ≡ length (descriptor_at file.now.bytes.now place).constants }
     ensures flags { result.flags ≡ (descriptor_at file.now.bytes.now place).flags }
 {
     let constants = constants_of_descriptor(file, place);
     let last = constants_behind(file, constants);
-    let bits = file.bytes[last.place] & KNOWN;
+    let bits = file.bytes[last.place] & IfaceFlags::KNOWN;
     Rest {
         constant_count: constants.count,
         flags: IfaceFlags { bits },

@@ -1,7 +1,9 @@
 ghost use Rattle.std.specs.Prelude.{◌≡◌, ◌+◌, ◌-◌, ◌≤◌, ◌<◌, Some, drop, is_some, length, option_map, slice_get, take};
+ghost use Rattle.call_model.specs.Tables.{end_slot, first_slot};
 ghost use Rattle.lib_model.specs.declared.contents.Iface.{Iface};
+ghost use Rattle.lib_model.specs.Table.{table_of};
 ghost use Rattle.lib_model.specs.Valid.{IsIfaceNumber, IsValid, body_of, parent_of};
-ghost use Rattle.descriptor_reader.specs.Views.{end_slot_of, first_slot_of, flags_in, iface_of, own_constants_of, own_methods_of};
+ghost use Rattle.descriptor_reader.specs.Views.{flags_in, iface_of, own_constants_of, own_methods_of};
 
 use crate::const_iter::ConstIter;
 use crate::const_views::ConstView;
@@ -9,13 +11,13 @@ use crate::constants::constant_by_number;
 use crate::descriptors::{descriptor_place, own_constants, own_methods, rest_of_descriptor};
 use crate::method_iter::MethodIter;
 use crate::slots::end_of_slots;
+use lib_model::IfaceFlags;
+use std::marker::Model;
 use typelib_check::CheckedFile;
 use typelib_check::chains::{links, place_of_entry};
 use typelib_check::interfaces::{DESCRIPTOR_OFFSET, NAME_OFFSET};
 use typelib_check::names::known_name;
 use typelib_check::numbers::word;
-use lib_model::IfaceFlags;
-use std::marker::Model;
 
 /// An interface of a typelib that has been checked.
 #[derive(Drop)]
@@ -31,7 +33,8 @@ impl<'a> Model for IfaceView<'a> {
 
     ghost Value = { IfaceOf };
 
-    ghost view = { λ v. record { library = library_of v.checked.file.bytes.now; number = v.number } };
+    ghost view = { λ v. record
+        { library = library_of v.checked.file.bytes.now; number = v.number } };
 
     ghost invariant = { λ v. (0 < v.number) × (v.number ≤ v.checked.file.count) };
 }
@@ -66,7 +69,7 @@ impl<'a> IfaceView<'a> {
 
     /// One past its last slot; 0 where it is not resolved.
     pub fn end_slot(&self) -> u16
-        ensures slot { result ≡ end_slot_of self.now }
+        ensures slot { result ≡ end_slot (table_of self.now.library) self.now.number }
         ensures few { result ≤ 250 }
     {
         end_of_slots(&self.checked, self.number)
@@ -80,8 +83,8 @@ impl<'a> IfaceView<'a> {
         sixteen(self.checked.file.bytes, entry)
     }
 
-    /// Whether it is resolved: declared with its members, and not by its name alone. The library is valid, and it is an
-    /// interface of it.
+    /// Whether it is resolved: declared with its members, and not by its name alone. The library
+    /// is valid, and it is an interface of it.
     pub fn resolved(&self) -> bool
         ensures resolved { result ≡ is_some (body_of self.now.library.ifaces self.now.number) }
         ensures valid { IsValid self.now.library }
@@ -101,9 +104,10 @@ impl<'a> IfaceView<'a> {
         }
     }
 
-    /// Its first own slot, which is the number of slots that its parent has; 0 where it is not resolved.
+    /// Its first own slot, which is the number of slots that its parent has; 0 where it is not
+    /// resolved.
     pub fn first_slot(&self) -> u16
-        ensures slot { result ≡ first_slot_of self.now }
+        ensures slot { result ≡ first_slot (table_of self.now.library) self.now.number }
         ensures few { result ≤ 250 }
     {
         let (parent, _) = links(&self.checked.file, self.number);

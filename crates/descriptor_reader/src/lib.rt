@@ -1,6 +1,7 @@
 //! A typelib, checked, and what it says, handed out where it stands. Nothing here takes memory.
 #![tactic(auto)]
 
+mod arg_iter;
 mod const_iter;
 mod const_views;
 mod constants;
@@ -10,13 +11,17 @@ mod iface_views;
 mod members;
 mod method_fields;
 mod method_iter;
+mod method_params;
 mod method_views;
 mod param_iter;
+mod proto_args;
+mod shapes;
 mod slots;
 mod statuses;
 mod thin;
 mod typelib;
 
+pub use arg_iter::ArgIter;
 pub use const_iter::ConstIter;
 pub use const_views::ConstView;
 pub use iface_views::IfaceView;
@@ -25,6 +30,3 @@ pub use method_views::MethodView;
 pub use param_iter::ParamIter;
 pub use typelib::Typelib;
 pub use typelib_faults::BadTypelib;
-
-#[cfg(test)]
-mod tests;

@@ -42,8 +42,12 @@ fn has_kind_and_name(file: &File<'_>, at: Cursor, kind: MemberKind, name: &[u8])
 /// The first of these methods that is the member of this kind and name.
 fn first_member(file: &File<'_>, methods: Methods, kind: MemberKind, name: &[u8]) -> Option<Found>
     requires { AreFineMethods file.now.bytes.now methods }
-    ensures first { option_map (λ (f : Found). f.slot) result ≡ position (λ (m : Method). is_member kind name.now (slot_of m)) (methods_of file.now.bytes.now methods) }
-    ensures method { IfSome result (λ f. slice_get (methods_of file.now.bytes.now methods) f.slot ≡ Some (method_at file.now.bytes.now f.at.place)) }
+    ensures first { option_map (λ (f : Found). f.slot) result
+        ≡ position (λ (m : Method). is_member kind name.now (slot_of m))
+        (methods_of file.now.bytes.now methods) }
+    ensures method { IfSome result
+        (λ f. slice_get (methods_of file.now.bytes.now methods) f.slot
+        ≡ Some (method_at file.now.bytes.now f.at.place)) }
     ensures fine { IfSome result (λ f. method_fault file.now.bytes.now f.at ≡ None) }
     ensures low { IfSome result (λ f. f.slot < methods.count) }
 {
@@ -57,12 +61,21 @@ fn first_member(file: &File<'_>, methods: Methods, kind: MemberKind, name: &[u8]
     None
 }
 
-/// The member of this kind and name of the interface of this number: its first own one, or else that of its parent, the
-/// nearest first.
-pub(crate) fn member(checked: &CheckedFile<'_>, number: u16, kind: MemberKind, name: &[u8]) -> Option<Found>
+/// The member of this kind and name of the interface of this number: its first own one, or else
+/// that of its parent, the nearest first.
+pub(crate) fn member(
+    checked: &CheckedFile<'_>,
+    number: u16,
+    kind: MemberKind,
+    name: &[u8],
+) -> Option<Found>
     requires { number ≤ checked.now.file.count }
-    ensures slot { option_map (λ (f : Found). f.slot) result ≡ member_within kind name.now (map table_iface (entries_of checked.now.file.bytes.now)) 250 number }
-    ensures method { IfSome result (λ f. slice_get (methods_within (entries_of checked.now.file.bytes.now) 250 number) f.slot ≡ Some (method_at checked.now.file.bytes.now f.at.place)) }
+    ensures slot { option_map (λ (f : Found). f.slot) result
+        ≡ member_within kind name.now (map table_iface (entries_of checked.now.file.bytes.now)) 250
+        number }
+    ensures method { IfSome result
+        (λ f. slice_get (methods_within (entries_of checked.now.file.bytes.now) 250 number) f.slot
+        ≡ Some (method_at checked.now.file.bytes.now f.at.place)) }
     ensures fine { IfSome result (λ f. method_fault checked.now.file.bytes.now f.at ≡ None) }
 {
     let mut at = number;
@@ -90,7 +103,8 @@ pub(crate) fn member(checked: &CheckedFile<'_>, number: u16, kind: MemberKind, n
 fn method_by_number(file: &File<'_>, methods: Methods, number: u16) -> Cursor
     requires fine { AreFineMethods file.now.bytes.now methods }
     requires low { number < methods.count }
-    ensures method { slice_get (methods_of file.now.bytes.now methods) number ≡ Some (method_at file.now.bytes.now result.place) }
+    ensures method { slice_get (methods_of file.now.bytes.now methods) number
+        ≡ Some (method_at file.now.bytes.now result.place) }
     ensures fine { method_fault file.now.bytes.now result ≡ None }
 {
     let mut at = methods.from;
@@ -100,10 +114,13 @@ fn method_by_number(file: &File<'_>, methods: Methods, number: u16) -> Cursor
     at
 }
 
-/// The method that the interface of this number has in this slot, one of its own or of its ancestors.
+/// The method that the interface of this number has in this slot, one of its own or of its
+/// ancestors.
 pub(crate) fn method_in_slot(checked: &CheckedFile<'_>, number: u16, slot: u16) -> Option<Cursor>
     requires { number ≤ checked.now.file.count }
-    ensures method { option_map (λ (c : Cursor). method_at checked.now.file.bytes.now c.place) result ≡ slice_get (methods_within (entries_of checked.now.file.bytes.now) 250 number) slot }
+    ensures method { option_map (λ (c : Cursor). method_at checked.now.file.bytes.now c.place)
+        result ≡ slice_get (methods_within (entries_of checked.now.file.bytes.now) 250 number)
+        slot }
     ensures fine { IfSome result (λ c. method_fault checked.now.file.bytes.now c ≡ None) }
 {
     let mut at = number;

@@ -5,13 +5,10 @@ ghost use Rattle.typelib_faults.specs.Places.{method_at};
 ghost use Rattle.typelib_check.specs.Parts.{AreFineParams, params_of};
 
 use call_model::MemberKind;
+use lib_model::MethodFlags;
 use typelib_check::names::known_name;
 use typelib_check::{File, Params};
-use lib_model::MethodFlags;
 use typelib_faults::Cursor;
-
-/// The bits of a method's flags that are known.
-const KNOWN: u8 = 0x80 | 0x40 | 0x20 | 0x10 | 0x08 | 0x04 | 0x02;
 
 /// The flags of the method at a cursor, which has no fault.
 #[tactic(auto, using(typelib_check::proofs::PartLaws::method_inside), unfolding(typelib_faults::specs::Places::method_at))]
@@ -19,7 +16,7 @@ pub(crate) fn flags_of_method(file: &File<'_>, at: Cursor) -> MethodFlags
     requires { method_fault file.now.bytes.now at ≡ None }
     ensures { result ≡ (method_at file.now.bytes.now at.place).flags }
 {
-    let bits = file.bytes[at.place] & KNOWN;
+    let bits = file.bytes[at.place] & MethodFlags::KNOWN;
     MethodFlags { bits }
 }
 
@@ -32,19 +29,13 @@ pub(crate) fn name_of_method<'a>(file: &File<'a>, at: Cursor) -> &'a [u8]
     known_name(file, at.place + 1)
 }
 
-/// What the method at a cursor, which has no fault, is: a method, or the reading or the writing half of an attribute.
+/// What the method at a cursor, which has no fault, is: a method, or the reading or the writing
+/// half of an attribute.
 pub(crate) fn kind_of_method(file: &File<'_>, at: Cursor) -> MemberKind
     requires { method_fault file.now.bytes.now at ≡ None }
     ensures { result ≡ kind_of (method_at file.now.bytes.now at.place) }
 {
-    let bits = flags_of_method(file, at).bits;
-    if bits & MethodFlags::GETTER.bits != 0 {
-        MemberKind::Get
-    } else if bits & MethodFlags::SETTER.bits != 0 {
-        MemberKind::Set
-    } else {
-        MemberKind::Plain
-    }
+    flags_of_method(file, at).kind()
 }
 
 /// The parameters of the method at a cursor, which has no fault.
@@ -52,7 +43,8 @@ pub(crate) fn kind_of_method(file: &File<'_>, at: Cursor) -> MemberKind
 pub(crate) fn params_of_method(file: &File<'_>, at: Cursor) -> Params
     requires { method_fault file.now.bytes.now at ≡ None }
     ensures fine { AreFineParams file.now.bytes.now result }
-    ensures are { params_of file.now.bytes.now result ≡ (method_at file.now.bytes.now at.place).params }
+    ensures are { params_of file.now.bytes.now result
+        ≡ (method_at file.now.bytes.now at.place).params }
 {
     Params {
         from: Cursor {

@@ -7,8 +7,8 @@ use typelib_check::CheckedFile;
 use typelib_check::lengths::method_behind;
 use typelib_faults::Cursor;
 
-/// The own methods of an interface, in the order of their slots. It takes no memory of its own, and stands for those that
-/// are still to come.
+/// The own methods of an interface, in the order of their slots. It takes no memory of its own,
+/// and stands for those that are still to come.
 #[derive(Drop)]
 pub struct MethodIter<'a> {
     pub(crate) checked: CheckedFile<'a>,
@@ -26,9 +26,12 @@ impl<'a> Model for MethodIter<'a> {
 
     ghost Value = { List MethodOf };
 
-    ghost view = { λ s. in_slots (library_of s.checked.file.bytes.now) s.slot (values (method_at s.checked.file.bytes.now) (method_end s.checked.file.bytes.now) s.at.place s.left) };
+    ghost view = { λ s. in_slots (library_of s.checked.file.bytes.now) s.slot
+        (values (method_at s.checked.file.bytes.now) (method_end s.checked.file.bytes.now)
+        s.at.place s.left) };
 
-    ghost invariant = { λ s. (walk (method_fault s.checked.file.bytes.now) (method_next s.checked.file.bytes.now) s.at s.left ≡ None) × (s.slot + s.left ≤ 500) };
+    ghost invariant = { λ s. (walk (method_fault s.checked.file.bytes.now)
+        (method_next s.checked.file.bytes.now) s.at s.left ≡ None) × (s.slot + s.left ≤ 500) };
 }
 
 impl<'a> Iterator for MethodIter<'a> {

@@ -2,14 +2,14 @@ ghost use Rattle.std.specs.Prelude.{List};
 ghost use Rattle.std.specs.Iterator.{YieldsFirst, item_count};
 ghost use Rattle.lib_model.specs.declared.param_types.Param.{Param};
 
-use typelib_check::File;
-use typelib_check::arguments::known_param;
 use lib_model::Param;
 use std::marker::Model;
+use typelib_check::File;
+use typelib_check::arguments::known_param;
 use typelib_faults::Cursor;
 
-/// The parameters of a method, in order, a return value among them. It takes no memory of its own, and stands for those that
-/// are still to come.
+/// The parameters of a method, in order, a return value among them. It takes no memory of its own,
+/// and stands for those that are still to come.
 #[derive(Drop)]
 pub struct ParamIter<'a> {
     pub(crate) file: File<'a>,
@@ -26,9 +26,11 @@ impl<'a> Model for ParamIter<'a> {
 
     ghost Value = { List Param };
 
-    ghost view = { λ s. values (param_at s.file.bytes.now) (param_end s.file.bytes.now) s.at.place s.left };
+    ghost view = { λ s. values (param_at s.file.bytes.now) (param_end s.file.bytes.now) s.at.place
+        s.left };
 
-    ghost invariant = { λ s. walk (param_fault s.file.bytes.now) (param_next s.file.bytes.now) s.at s.left ≡ None };
+    ghost invariant = { λ s. walk (param_fault s.file.bytes.now) (param_next s.file.bytes.now) s.at
+        s.left ≡ None };
 }
 
 impl<'a> Iterator for ParamIter<'a> {

@@ -5,26 +5,21 @@ ghost use Rattle.typelib_faults.specs.Places.{descriptor_at, directory_of, entry
 ghost use Rattle.typelib_check.specs.Parts.{AreFineMethods, AreFineParams, methods_of, params_of};
 ghost use Rattle.descriptor_reader.specs.Views.{first_at};
 
-use crate::descriptors::{
-    Rest, descriptor_place, methods_of_descriptor, rest_of_descriptor,
-};
+use crate::descriptors::{Rest, descriptor_place, methods_of_descriptor, rest_of_descriptor};
 use crate::method_fields::{flags_of_method, params_of_method};
+use lib_model::{Param, ParamFlags, XType, tags};
 use typelib_check::arguments::known_param;
 use typelib_check::interfaces::NAMESPACE_OFFSET;
 use typelib_check::lengths::method_behind;
 use typelib_check::numbers::{half, word};
 use typelib_check::{CheckedFile, File, Methods, Params};
-use lib_model::{Param, ParamFlags, XType};
 use typelib_faults::Cursor;
-
-/// The tag of a number of 32 bits with a sign.
-const I32_TAG: u8 = 2;
 
 /// Whether a parameter carries a number of 32 bits into the call.
 fn thin_param(param: Param) -> bool
     ensures { IsTrue result ↔ IsThinParam param }
 {
-    param.flags == ParamFlags::IN && param.ty == XType::Plain(I32_TAG)
+    param.flags == ParamFlags::IN && param.ty == XType::Plain(tags::INT32)
 }
 
 /// Whether all these parameters, which have no fault, carry a number of 32 bits into the call.
@@ -87,7 +82,8 @@ fn thin_descriptor(file: &File<'_>, place: usize) -> bool
 /// Whether the only interface is thin.
 fn thin_entry(checked: &CheckedFile<'_>) -> bool
     requires { checked.now.file.count ≡ 1 }
-    ensures { IsTrue result ↔ IsThinIface (entry_at checked.now.file.bytes.now (directory_of checked.now.file.bytes.now)) }
+    ensures { IsTrue result ↔ IsThinIface
+        (entry_at checked.now.file.bytes.now (directory_of checked.now.file.bytes.now)) }
 {
     let file = &checked.file;
     if word(file.bytes, file.directory + NAMESPACE_OFFSET) != 0 {

@@ -1,12 +1,12 @@
 ghost use Rattle.std.specs.Prelude.{◌≡◌, ◌≤◌, ◌↔◌, IfErr, IfOk, IfSome, IsTrue, Ok, Some, length, option_map, slice_get};
-ghost use Rattle.call_model.specs.Tables.{iface_named, member_of};
+ghost use Rattle.call_model.specs.Tables.{descends_from, iface_named, iface_with_iid, member_of};
 ghost use Rattle.lib_model.specs.declared.contents.Library.{Library};
 ghost use Rattle.lib_model.specs.Denotes.{Denotes};
 ghost use Rattle.lib_model.specs.Table.{methods_of, table_of};
 ghost use Rattle.lib_model.specs.Thin.{IsThin};
 ghost use Rattle.lib_model.specs.Valid.{IsValid};
 ghost use Rattle.typelib_faults.specs.Laws.{FirstFault};
-ghost use Rattle.descriptor_reader.specs.Views.{MethodOf, descends_from, first_number, has_iid, numbered};
+ghost use Rattle.descriptor_reader.specs.Views.{MethodOf, numbered};
 
 use crate::finds::{find, find_iid};
 use crate::iface_views::IfaceView;
@@ -14,14 +14,14 @@ use crate::members::{member, method_in_slot};
 use crate::method_views::MethodView;
 use crate::thin::thin_library;
 use call_model::MemberKind;
+use std::marker::Model;
 use typelib_check::chains::reaches;
 use typelib_check::{CheckedFile, checked};
-use lib_model::LONGEST_TYPELIB;
-use std::marker::Model;
 use typelib_faults::BadTypelib;
+use xp_base::MAX_TYPELIB;
 
-/// A typelib that has been checked. It borrows the file's bytes, takes no memory of its own, and stands for the library
-/// that the bytes denote.
+/// A typelib that has been checked. It borrows the file's bytes, takes no memory of its own, and
+/// stands for the library that the bytes denote.
 #[derive(Drop)]
 pub struct Typelib<'a> {
     checked: CheckedFile<'a>,
@@ -37,11 +37,11 @@ impl<'a> Model for Typelib<'a> {
 }
 
 impl<'a> Typelib<'a> {
-    /// Checks whether the bytes, of which there are at most `LONGEST_TYPELIB`, are a typelib. If so it stands for the
-    /// library that they denote, in the XPCOM typelib format; there is only one. Otherwise the answer is the first fault in
-    /// the order in which a typelib is read.
+    /// Checks whether the bytes, of which there are at most `MAX_TYPELIB`, are a typelib. If so it
+    /// stands for the library that they denote, in the XPCOM typelib format; there is only one.
+    /// Otherwise the answer is the first fault in the order in which a typelib is read.
     pub fn check(bytes: &'a [u8]) -> Result<Typelib<'a>, BadTypelib>
-        requires { length bytes.now ≤ LONGEST_TYPELIB }
+        requires { length bytes.now ≤ MAX_TYPELIB }
         ensures ok { IfOk result (λ lib. Denotes bytes.now lib) }
         ensures only { (lib : Library) → Denotes bytes.now lib → result ≡ Ok lib }
         ensures err { IfErr result (λ fault. FirstFault bytes.now fault) }
@@ -75,25 +75,30 @@ impl<'a> Typelib<'a> {
         })
     }
 
-    /// The number, counted from 1, of the first resolved interface of this name; None where there is none.
+    /// The number, counted from 1, of the first resolved interface of this name; None where there
+    /// is none.
     pub fn find(&self, name: &[u8]) -> Option<u16>
         ensures { result ≡ iface_named (table_of self.now) name.now }
     {
         find(&self.checked, name)
     }
 
-    /// The number, counted from 1, of the first resolved interface of this identifier; None where there is none.
+    /// The number, counted from 1, of the first resolved interface of this identifier; None where
+    /// there is none.
     pub fn find_iid(&self, iid: &[u8; 16]) -> Option<u16>
-        ensures { result ≡ first_number (has_iid iid.now) self.now }
+        ensures { result ≡ iface_with_iid (table_of self.now) iid.now }
     {
         find_iid(&self.checked, iid)
     }
 
-    /// The member of this kind and name of the interface `k`, counted from 1: its first own one, or else that of its parent, the
-    /// nearest first. None where there is none, or `k` is the number of no resolved interface.
+    /// The member of this kind and name of the interface `k`, counted from 1: its first own one,
+    /// or else that of its parent, the nearest first. None where there is none, or `k` is the
+    /// number of no resolved interface.
     pub fn find_method(&self, k: u16, kind: MemberKind, name: &[u8]) -> Option<MethodView<'a>>
-        ensures slot { option_map (λ (m : MethodOf). m.slot) result ≡ member_of (table_of self.now) k kind name.now }
-        ensures method { IfSome result (λ m. slice_get (methods_of self.now k) m.slot ≡ Some m.method) }
+        ensures slot { option_map (λ (m : MethodOf). m.slot) result
+            ≡ member_of (table_of self.now) k kind name.now }
+        ensures method { IfSome result
+            (λ m. slice_get (methods_of self.now k) m.slot ≡ Some m.method) }
         ensures library { IfSome result (λ m. m.library ≡ self.now) }
     {
         if k > self.checked.file.count {
@@ -109,10 +114,11 @@ impl<'a> Typelib<'a> {
         }
     }
 
-    /// The method that the interface `k`, counted from 1, has in a slot, one of its own or of its ancestors. None where it has no
-    /// such slot.
+    /// The method that the interface `k`, counted from 1, has in a slot, one of its own or of its
+    /// ancestors. None where it has no such slot.
     pub fn method_at(&self, k: u16, slot: u16) -> Option<MethodView<'a>>
-        ensures method { option_map (λ (m : MethodOf). m.method) result ≡ slice_get (methods_of self.now k) slot }
+        ensures method { option_map (λ (m : MethodOf). m.method) result
+            ≡ slice_get (methods_of self.now k) slot }
         ensures slot { IfSome result (λ m. m.slot ≡ slot) }
         ensures library { IfSome result (λ m. m.library ≡ self.now) }
     {
@@ -129,8 +135,8 @@ impl<'a> Typelib<'a> {
         }
     }
 
-    /// Whether the library is thin: one resolved interface with no namespace, parent, constants or flags, whose methods have no
-    /// flags, take numbers of 32 bits and give nothing.
+    /// Whether the library is thin: one resolved interface with no namespace, parent, constants or
+    /// flags, whose methods have no flags, take numbers of 32 bits and give nothing.
     pub fn thin(&self) -> bool
         ensures { IsTrue result ↔ IsThin self.now }
     {
@@ -140,7 +146,7 @@ impl<'a> Typelib<'a> {
     /// Whether the interface `k` is `from` or descends from it; both are counted from 1.
     #[tactic(auto, using(crate::proofs::ViewLaws::directory_known))]
     pub fn descends(&self, k: u16, from: u16) -> bool
-        ensures { result ≡ descends_from self.now k from }
+        ensures { result ≡ descends_from (table_of self.now) k from }
     {
         if k > self.checked.file.count {
             return k == from;

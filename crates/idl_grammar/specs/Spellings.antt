@@ -10,7 +10,7 @@ use Rattle.idl_lexer.specs.Spelling.{IsWord}
 abbrev pub quote : List ℕ
 quote = 34 ∷ []
 
--- ---- an include: `#include`, spaces and tabs, and the file's name in quotes
+-- ---- an include: `#include`, a gap of spaces and tabs, and the file's name in quotes
 
 -- 1 to 255 printable bytes of ASCII other than a quote
 pub record IsFileName (name : List ℕ) : Type 0 where
@@ -29,7 +29,7 @@ pub record IsInclude (spelling name : List ℕ) : Type 0 where
 unfoldable pub quoted : List ℕ → List ℕ
 quoted text = front Quoted (drop 1 (behind Gap (drop 8 text)))
 
--- ---- a native: `native`, spaces and tabs, a name, perhaps spaces and tabs, and a text in parentheses
+-- ---- a native: `native`, a gap, a name, perhaps a gap, and a text in parentheses
 
 -- one byte or more between parentheses, none of which is one, or a line feed
 pub record IsNativeText (text : List ℕ) : Type 0 where

@@ -19,8 +19,9 @@ pub fn each_text_says_one_thing()
 {}
 
 /// The parts of a lawful tree are as the language has them. Every name is a word of 1 to 255 bytes
-/// other than 0, an identifier is one that `uuid` reads, a number is spelled as one, the steps of an
-/// expression find their operands and leave one value, and no list is longer than that of the tokens.
+/// other than 0, an identifier is one that `uuid` reads, a number is spelled as one, the steps of
+/// an expression find their operands and leave one value, and no list is longer than that of the
+/// tokens.
 pub fn a_lawful_file_is_well_formed()
     ensures { (tree : IdlFile) (lawful : IsLawfulFile tree)
         → IsFile (length lawful.has.tokens) tree }

@@ -3,6 +3,7 @@
 ghost use Rattle.std.specs.Prelude.{◌≡◌};
 ghost use Rattle.idl_lexer.specs.Classes.{is_in};
 
+/// A class of bytes, in ASCII.
 #[derive(Clone, Copy, Debug)]
 pub enum Class {
     /// What separates tokens: space, tab, carriage return, line feed and form feed.
@@ -11,10 +12,13 @@ pub enum Class {
     NameStart,
     /// A letter, a digit or `_`.
     NameByte,
+    /// A decimal digit.
     Digit,
+    /// A hexadecimal digit, of either case.
     Hexadecimal,
     /// A space or a tab.
     Gap,
+    /// A space.
     Space,
     /// What may stand between quotes: a printable byte of ASCII other than `"`.
     Quoted,

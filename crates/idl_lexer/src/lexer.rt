@@ -6,15 +6,12 @@ ghost use Rattle.idl_lexer.specs.Tokens.{AreTokens, HasOneReading, IfAt, IsFault
 use crate::piece::piece;
 use crate::token::{LexError, Token, Tokens};
 use std::alloc::Global;
-use xp_base::{Bytes, List};
-
-/// The most bytes of a text.
-pub const MAX_SOURCE: usize = 1_048_576;
+use xp_base::{Bytes, List, MAX_TEXT};
 
 /// The place at which the text goes on with what is left of it.
 fn place(source: &[u8], rest: &[u8]) -> u32
     requires left { length rest.now ≤ length source.now }
-    requires short { length source.now ≤ MAX_SOURCE }
+    requires short { length source.now ≤ MAX_TEXT }
     ensures { result ≡ length source.now - length rest.now }
 {
     (source.len() - rest.len()) as u32
@@ -22,7 +19,7 @@ fn place(source: &[u8], rest: &[u8]) -> u32
 
 /// How many line feeds there are.
 fn line_feeds(text: &[u8]) -> u32
-    requires { length text.now ≤ MAX_SOURCE }
+    requires { length text.now ≤ MAX_TEXT }
     ensures { result ≡ count_by (λ c. c == 10) text.now }
 {
     text.iter().filter(|byte| **byte == b'\n').count() as u32
@@ -30,7 +27,7 @@ fn line_feeds(text: &[u8]) -> u32
 
 /// The tokens of the text, piece by piece.
 fn tokens_of(alloc: Global, source: &[u8]) -> Result<List<Token>, LexError>
-    requires { length source.now ≤ MAX_SOURCE }
+    requires { length source.now ≤ MAX_TEXT }
     ensures tokens { IfOk result (λ list. AreTokens source.now list) }
     ensures refused { IfErr result (IsFault source.now) }
 {
@@ -58,14 +55,14 @@ fn tokens_of(alloc: Global, source: &[u8]) -> Result<List<Token>, LexError>
     Ok(list)
 }
 
-/// The tokens of an XPIDL text of at most `MAX_SOURCE` bytes, with a copy of the text.
+/// The tokens of an XPIDL text of at most `MAX_TEXT` bytes, with a copy of the text.
 ///
 /// A text is a chain of blanks, comments and tokens, each token the longest spelling at its place.
 /// `At` comes exactly where it is none: `at` is the first byte that the chain reaches and at which
 /// no piece begins, and `line` is one more than the line feeds before it. Want of memory gives
 /// `Memory`.
 pub fn lex(alloc: Global, source: &[u8]) -> Result<Tokens, LexError>
-    requires { length source.now ≤ MAX_SOURCE }
+    requires { length source.now ≤ MAX_TEXT }
 
     // The text itself and its tokens, one behind the other.
     ensures source { IfOk result (λ t. t.source ≡ source.now) }

@@ -12,6 +12,6 @@ mod spelling;
 mod token;
 
 pub use class::Class;
-pub use lexer::{MAX_SOURCE, lex};
+pub use lexer::lex;
 pub use part::split_run;
 pub use token::{Kind, LexError, Token, Tokens};

@@ -22,7 +22,8 @@ pub struct ScopeIface {
     pub flags: u8,
     /// Whether it is defined, and not only named by a forward declaration.
     pub defined: bool,
-    /// The number of the file with its definition, or with its first forward declaration where it is not defined.
+    /// The number of the file with its definition, or with its first forward declaration where it
+    /// is not defined.
     pub file: u32,
     /// The number of that declaration among all items of the file.
     pub decl: u32,

@@ -46,6 +46,14 @@ holds-push args a len old new h p = record {
   bytes = λ b lt. p.byte b (omega (arith, lt, h.stack_len)) ∙ ap (λ n. byte_at b n a.at a.space a.pattern) (h.bytes b lt) ∙ sym (fold-append (λ other (c : Argument). byte_at b other c.at c.space c.pattern) 0 args (a ∷ []));
 }
 
+-- one argument more, by what the steps of a walk answer for it
+pub holds-more : (conv : Conv) (types : List CType) (patterns : List ℕ) (t : CType) (p len : ℕ) (old new : FrameView) (at : Loc) (space pattern : ℕ) → length types ≡ length patterns
+    → at ≡ place conv types t → space ≡ space_of conv t → pattern ≡ p
+    → Holds (arguments conv types patterns) len old → Puts old new at space pattern → Holds (arguments conv (types ++ t ∷ []) (patterns ++ p ∷ [])) len new
+holds-more conv types patterns t p len old new at space pattern paired at-is space-is p-is h puts =
+    rw (arguments-push conv types patterns t p paired)
+    (holds-push (arguments conv types patterns) (argument conv types t p) len old new h (rw (at-is, space-is, p-is) at puts))
+
 -- the argument at place i after those before it
 pub holds-next : (conv : Conv) (types : List CType) (patterns : List ℕ) (i len : ℕ) (old new : FrameView) (at : Loc) (space : ℕ) → length types ≡ length patterns → i < length types
     → at ≡ place conv (take i types) (type_at types i) → space ≡ space_of conv (type_at types i)
@@ -74,7 +82,8 @@ holds-all conv types patterns frame h =
     ∙ ap (λ fprs. record { gprs = (frame_of conv types patterns).gprs; fprs = fprs; stack = frame.stack }) (whole (fpr_of (arguments conv types patterns)) 8 frame.fprs h.fprs_len h.fprs)
     ∙ ap (λ stack. record { gprs = (frame_of conv types patterns).gprs; fprs = (frame_of conv types patterns).fprs; stack = stack }) (whole (byte_of (arguments conv types patterns)) (stack_len_of conv types) frame.stack h.stack_len h.bytes)
 
-registers : (conv : Conv) → (gprs_of conv ≤ 8) × (fprs_of conv ≤ 8)
+-- no convention has more than 8 registers of a class
+pub registers : (conv : Conv) → (gprs_of conv ≤ 8) × (fprs_of conv ≤ 8)
 registers SysV64 = (omega arith, omega arith)
 registers I386 = (omega arith, omega arith)
 registers Aapcs64 = (omega arith, omega arith)
@@ -82,7 +91,7 @@ registers Ms64 = (omega arith, omega arith)
 registers Aapcs32 = (omega arith, omega arith)
 
 -- what the convention has, the frame has
-is-place : (conv : Conv) (frame : FrameView) (len : ℕ) (loc : Loc) (space : ℕ) → IsWithin conv len loc space → space ≤ 8 → length frame.stack ≡ len → IsPlace frame loc space
+pub is-place : (conv : Conv) (frame : FrameView) (len : ℕ) (loc : Loc) (space : ℕ) → IsWithin conv len loc space → space ≤ 8 → length frame.stack ≡ len → IsPlace frame loc space
 is-place conv frame len (Gpr r) space within small is = omega (arith, within, (registers conv).0)
 is-place conv frame len (Fpr r) space within small is = omega (arith, within, (registers conv).1)
 is-place conv frame len (Stack at) space within small is = (small, omega (arith, within, is))

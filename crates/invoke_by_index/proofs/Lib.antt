@@ -1,1 +1,3 @@
+pub mod CellValues
 pub mod Filled
+pub mod Prototypes

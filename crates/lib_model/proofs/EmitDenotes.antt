@@ -51,7 +51,13 @@ annotation_stands h =
       omega (arith, byte),
       (
         33,
-        record { form = inl (rw byte refl, refl); inside = omega (arith, piece_inside annotation_text h) },
+        record {
+          form = inl (rw byte refl, refl);
+          inside = omega (
+            arith,
+            piece_inside annotation_text h,
+          );
+        },
       ),
     )
 

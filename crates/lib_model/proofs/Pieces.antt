@@ -53,8 +53,13 @@ piece_tail {u = u} {b = b} ends h = piece_right (b ∷ []) u ends h
 
 pub piece_inside : {x : List ℕ} {p : ℕ} (t : List ℕ) → Piece x p t → p + length t ≤ length x
 piece_inside t h =
-    omega
-    (arith, ap length h.whole, length-append h.before (t ++ h.behind), length-append t h.behind, h.place)
+    omega (
+      arith,
+      ap length h.whole,
+      length-append h.before (t ++ h.behind),
+      length-append t h.behind,
+      h.place,
+    )
 
 pub piece_taken : {x : List ℕ} {p : ℕ} (t : List ℕ)
     → Piece x p t → take (length t) (drop p x) ≡ t
@@ -124,8 +129,13 @@ word_read {p = p} h =
 pub word_stands : {x : List ℕ} {p n : ℕ}
     → n < 4294967296 → Piece x p (four_bytes n) → WordStands x p n
 unfolding four_bytes
-word_stands {n = n} small h =
-    (omega (arith, piece_inside (four_bytes n) h), word_read h ∙ from_be_bytes-to_be_bytes_4 n small)
+word_stands {n = n} small h = (
+  omega (
+    arith,
+    piece_inside (four_bytes n) h,
+  ),
+  word_read h ∙ from_be_bytes-to_be_bytes_4 n small,
+)
 
 pub text_stands : {x : List ℕ} {p : ℕ} (name : List ℕ)
     → Piece x p (name_text name) → TextStands x p name

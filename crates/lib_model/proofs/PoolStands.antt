@@ -87,7 +87,8 @@ module _ (x : List ℕ) (short : length x ≤ MAX_TYPELIB) (ifaces : List Iface)
   method_stands p k q m is some h there ends =
       let params : List ℕ = flat_map param_text m.params
       in let part =
-      laid p ((m.flags.bits ∷ []) ∷ four_bytes k ∷ (length m.params ∷ []) ∷ params ∷ result_text ∷ []) h
+      laid p
+      ((m.flags.bits ∷ []) ∷ four_bytes k ∷ (length m.params ∷ []) ∷ params ∷ result_text ∷ []) h
       in let params_at : Piece x (p + 6) params = piece_at (omega arith) part.1.1.1.0
       in let last_at : Piece x (p + 6 + length params) result_text =
       piece_at (omega arith) part.1.1.1.1.0

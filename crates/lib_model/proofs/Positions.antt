@@ -48,7 +48,8 @@ written_last ps rest p whole = ap written_count whole ∙ written_behind rest p
 
 -- ---- four lists in a row, the second and the last of which are a list in two parts
 
-module _ {A B : Type 0} (f : A → B) (first middle : List B) (ps : List A) (w : ℕ) (few : w ≤ length ps) where
+module _ {A B : Type 0} (f : A → B) (first middle : List B) (ps : List A) (w : ℕ)
+    (few : w ≤ length ps) where
   whole : List B
   whole = first ++ (map f (take w ps) ++ (middle ++ map f (drop w ps)))
 
@@ -95,17 +96,39 @@ module _ {A B : Type 0} (f : A → B) (first middle : List B) (ps : List A) (w :
       → place early k < length whole
   unfolding whole place
   place_inside k true within is =
-      omega
-      (arith, within, few, front_len, length-append first (map f (take w ps) ++ (middle ++ map f (drop w ps))), length-append (map f (take w ps)) (middle ++ map f (drop w ps)), length-append middle (map f (drop w ps)), length-map (drop w ps) f, length-drop w ps)
+      omega (
+        arith,
+        within,
+        few,
+        front_len,
+        length-append first (map f (take w ps) ++ (middle ++ map f (drop w ps))),
+        length-append (map f (take w ps)) (middle ++ map f (drop w ps)),
+        length-append middle (map f (drop w ps)),
+        length-map (drop w ps) f,
+        length-drop w ps,
+      )
   place_inside k false within is =
-      omega
-      (arith, within, few, front_len, length-append first (map f (take w ps) ++ (middle ++ map f (drop w ps))), length-append (map f (take w ps)) (middle ++ map f (drop w ps)), length-append middle (map f (drop w ps)), length-map (drop w ps) f, length-drop w ps)
+      omega (
+        arith,
+        within,
+        few,
+        front_len,
+        length-append first (map f (take w ps) ++ (middle ++ map f (drop w ps))),
+        length-append (map f (take w ps)) (middle ++ map f (drop w ps)),
+        length-append middle (map f (drop w ps)),
+        length-map (drop w ps) f,
+        length-drop w ps,
+      )
 
 pub has_positions : (m : Method) → HasPositions m
 unfolding proto_of whole place
 has_positions m =
     let w : ℕ = written_count m.params
     in record {
-      argument = λ k. at_place (arg_of m) (first_args m) (middle_args m) m.params w (written_few m.params) k (nat_lt k w) refl;
-      inside = λ k within. place_inside (arg_of m) (first_args m) (middle_args m) m.params w (written_few m.params) k (nat_lt k w) within refl;
+      argument = λ k.
+          at_place (arg_of m) (first_args m) (middle_args m) m.params w (written_few m.params) k
+          (nat_lt k w) refl;
+      inside = λ k within.
+          place_inside (arg_of m) (first_args m) (middle_args m) m.params w (written_few m.params) k
+          (nat_lt k w) within refl;
     }

@@ -1,9 +1,16 @@
 //! Tests of the machine over its public calls: where each convention passes arguments, and what
-//! stands there.
+//! stands there; blocks of raw memory, the machine's memory and cells, and its frame.
 //!
-//! Each is a table and one loop. The expected values are those of the standards.
+//! Each is a table and one loop. The expected values are those of the standards, or were worked out
+//! by hand.
 #![tactic(auto)]
 
+#[cfg(test)]
+mod blocks;
+#[cfg(test)]
+mod frames;
+#[cfg(test)]
+mod memory;
 #[cfg(test)]
 mod patterns;
 #[cfg(test)]

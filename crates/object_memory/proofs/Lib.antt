@@ -1,4 +1,5 @@
 pub mod Access
+pub mod Bytes
 pub mod CellNumbers
 pub mod Entries
 pub mod Growth

@@ -45,7 +45,8 @@ pub(crate) fn put_low_bytes(block: &mut Block, at: usize, n: usize, v: u64)
 /// The number that at most 8 bytes make.
 pub(crate) fn number_of_bytes(bytes: &[u8]) -> u64
     requires { length bytes.now ≤ 8 }
-    ensures { result ≡ number_of bytes.now }
+    ensures value { result ≡ number_of bytes.now }
+    ensures small { result < 2 ^ (8 * length bytes.now) }
 {
     let mut all = [0; 8];
     all[..bytes.len()].copy_from_slice(bytes);
@@ -54,7 +55,8 @@ pub(crate) fn number_of_bytes(bytes: &[u8]) -> u64
 
 /// The number that the `n` low bytes of `v` make.
 pub(crate) fn low_part(v: u64, n: u32) -> u64
-    ensures { result ≡ number_of (low_bytes n v) }
+    ensures value { result ≡ number_of (low_bytes n v) }
+    ensures small { result < 2 ^ (8 * n) }
 {
     if n < 8 { v % (1 << (8 * n)) } else { v }
 }

@@ -1,4 +1,4 @@
-ghost use Rattle.std.specs.Prelude.{◌≡◌, ◌+◌, ◌<◌, ◌≤◌, length, replicate, slice_index};
+ghost use Rattle.std.specs.Prelude.{◌≡◌, ◌+◌, ◌*◌, ◌<◌, ◌≤◌, ◌^◌, length, replicate, slice_index};
 ghost use Rattle.call_model.specs.declared.places.Loc.TheVariants.{Gpr as GprAt, Fpr as FprAt, Stack as StackAt};
 ghost use Rattle.call_model.specs.Values.{frame_registers, own_at};
 ghost use Rattle.object_memory.specs.Frames.{IsPlace, Puts, with_stack_bytes, zero_frame};
@@ -146,7 +146,8 @@ impl Frame {
     /// The number that the `n` low bytes at a location make: the counterpart of `put`.
     pub fn own(&self, at: Loc, n: u32) -> u64
         requires { IsPlace self.now at n }
-        ensures { result ≡ own_at self.now n at }
+        ensures value { result ≡ own_at self.now n at }
+        ensures small { result < 2 ^ (8 * n) }
     {
         match at {
             Loc::Gpr(r) => low_part(self.gprs[r as usize], n),

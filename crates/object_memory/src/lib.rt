@@ -9,8 +9,6 @@ mod errors;
 mod frame;
 mod layout;
 mod machine;
-#[cfg(test)]
-mod tests;
 mod width;
 
 pub use data_block::DataBlock;

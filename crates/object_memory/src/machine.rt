@@ -187,6 +187,7 @@ impl Machine {
     pub fn load(&self, at: u64, width: Width) -> Option<u64>
         ensures readable { IsSome result ↔ IsReadable self.now at (bytes_of width) }
         ensures value { result ≡ number_at self.now at (bytes_of width) }
+        ensures small { IfSome result (λ number. number < 2 ^ (8 * bytes_of width)) }
         ensures in_cells { InCells self.now at (bytes_of width)
             → result ≡ Some (number_of (cell_bytes self.now at (bytes_of width))) }
         ensures cell { LoadsCell self.now at width result }

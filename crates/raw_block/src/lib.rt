@@ -5,7 +5,5 @@
 
 mod block;
 mod run;
-#[cfg(test)]
-mod tests;
 
 pub use block::Block;

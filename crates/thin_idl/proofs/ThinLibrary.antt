@@ -1,5 +1,5 @@
 -- The library of a thin text is thin.
-use Rattle.std.proofs.Common.{◌≡◌, ℕ, true, ltb, leb, List, length, get_or, refl}
+use Rattle.std.proofs.Common.{◌≡◌, ℕ, true, ltb, leb, List, length, get_or, refl, ◌≤◌, arith, ap, subst, ◌∙◌}
 use Rattle.std.specs.Prelude.{◌&&◌, IsTrue}
 use Rattle.std.proofs.lemmas.Bool.{leb-true, ltb-true}
 use Rattle.std.proofs.lemmas.List.{length-map}
@@ -12,7 +12,11 @@ use Rattle.lib_model.proofs.ThinFacts.{ThinMethodParts, thin_from_parts}
 use Rattle.thin_idl.specs.declared.thin_interface.ThinInterface.{ThinInterface}
 use Rattle.thin_idl.specs.declared.thin_interface.ThinMethod.{ThinMethod}
 use Rattle.thin_idl.specs.Lawful.{are_distinct, are_lawful_methods, has_no_zero, is_name, is_lawful, is_lawful_method}
-use Rattle.thin_idl.specs.ThinLibrary.{library_of, thin_iface, thin_method, thin_param}
+use Rattle.thin_idl.specs.ThinLibrary.{library_of, thin_iface, thin_method, thin_param, IsTypelibOf}
+use Rattle.xp_base.specs.declared.limits.TheConstants.{MAX_TYPELIB}
+use Rattle.lib_model.specs.declared.contents.Library.{Library}
+use Rattle.lib_model.specs.Denotes.{Denotes}
+use Rattle.lib_model.specs.Emit.{emit}
 
 name_ok : (name : List ℕ) → is_name name ≡ true → IsName name
 name_ok name e =
@@ -55,3 +59,17 @@ library_thin i lawful sixteen =
         flags = refl;
       };
     })
+
+-- the bytes that are written for the library of a thin text are its typelib
+pub typelib_made : (i : ThinInterface) (lib : Library) (bytes : List ℕ) → lib ≡ library_of i
+    → IsThin lib → bytes ≡ emit lib → Denotes bytes lib → length (emit lib) ≤ MAX_TYPELIB
+    → IsTypelibOf i bytes
+typelib_made i lib bytes same thin written denoted short =
+    let Thin : Library → Type 0 = IsThin
+    in let Denoted : Library → Type 0 = λ l. Denotes bytes l
+    in record {
+      emitted = written ∙ ap emit same;
+      denoted = subst Denoted same denoted;
+      thin = subst Thin same thin;
+      within = omega (arith, ap length written, short);
+    }

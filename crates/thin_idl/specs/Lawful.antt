@@ -16,15 +16,19 @@ is_name name = nat_lt 0 (length name) && nat_le (length name) 255 && has_no_zero
 -- no two have the same name
 abbrev pub are_distinct : {A : Type 0} → (A → List ℕ) → List A → Bool
 are_distinct name_of [] = true
-are_distinct name_of (x ∷ xs) = not (list_any (λ other. bytes_eq (name_of x) (name_of other)) xs) && are_distinct name_of xs
+are_distinct name_of (x ∷ xs) =
+    not (list_any (λ other. bytes_eq (name_of x) (name_of other)) xs) && are_distinct name_of xs
 
 -- a lawful name, and at most 255 parameters, no two of the same name
 abbrev pub is_lawful_method : ThinMethod → Bool
-is_lawful_method m = is_name m.name && nat_le (length m.params) 255 && are_distinct (λ name. name) m.params
+is_lawful_method m =
+    is_name m.name && nat_le (length m.params) 255 && are_distinct (λ name. name) m.params
 
 abbrev pub are_lawful_methods : List ThinMethod → Bool
 are_lawful_methods methods = list_all is_lawful_method methods
 
 -- a lawful name, and at most 250 lawful methods, no two of the same name
 abbrev pub is_lawful : ThinInterface → Bool
-is_lawful i = is_name i.name && nat_le (length i.methods) 250 && are_lawful_methods i.methods && are_distinct (λ m. m.name) i.methods
+is_lawful i =
+    is_name i.name && nat_le (length i.methods) 250 && are_lawful_methods i.methods
+    && are_distinct (λ m. m.name) i.methods

@@ -45,13 +45,16 @@ is_long_in p = length p.attrs == 0 && is_inward p.dir && is_long p.of
 -- the method that a member is, where it is thin
 abbrev pub method_of : MemberBody → Option ThinMethod
 method_of (member.Method attrs of name params) =
-    if length attrs == 0 && is_void of && list_all is_long_in params then Some (record { name = name; params = map (λ (p : ParamDecl). p.name) params }) else None
+    if length attrs == 0 && is_void of && list_all is_long_in params
+    then Some (record { name = name; params = map (λ (p : ParamDecl). p.name) params }) else None
 method_of _ = None
 
 -- the methods that members are, where all are thin
 abbrev pub methods_of : List Member → Option (List ThinMethod)
 methods_of [] = Some []
-methods_of (m ∷ ms) = option_and_then (λ first. option_map (λ others. first ∷ others) (methods_of ms)) (method_of m.body)
+methods_of (m ∷ ms) =
+    option_and_then (λ first. option_map (λ others. first ∷ others) (methods_of ms))
+    (method_of m.body)
 
 -- the text of an IID in parentheses
 abbrev pub iid_inside : AttrValue → Option (List ℕ)
@@ -96,7 +99,9 @@ where_lawful i = if is_lawful i then Some i else None
 abbrev pub thin_interface : Interface → Option ThinInterface
 thin_interface i =
     option_and_then
-    (λ iid. option_and_then (λ methods. where_lawful (record { name = i.name; iid = iid; methods = methods })) (methods_of i.members))
+    (λ iid. option_and_then
+    (λ methods. where_lawful (record { name = i.name; iid = iid; methods = methods }))
+    (methods_of i.members))
     (iid_of i.attrs)
 
 -- what a tree says that is thin

@@ -1,4 +1,5 @@
--- Thin trees: one interface with no parent, whose methods give nothing and take numbers of the type `long`.
+-- Thin trees: one interface with no parent, whose methods give nothing and take numbers of the
+-- type `long`.
 use Rattle.std.specs.Prelude.{◌≡◌, ℕ, IsTrue, List, [], ◌∷◌, map, Some, None, codes}
 use Rattle.uuid.specs.Text.{parsed}
 use Rattle.xp_base.specs.declared.kinds.Dir.TheVariants.{Inward}
@@ -31,10 +32,16 @@ uuid text = record { name = codes "uuid"; value = value.Iid text }
 
 -- an interface of this name with no parent, whose one attribute is `uuid`
 abbrev pub plain_interface : (name text : List ℕ) → List Member → ItemBody
-plain_interface name text members = item.Interface (record { attrs = uuid text ∷ []; name = name; parent = None; members = members })
+plain_interface name text members =
+    item.Interface (record {
+      attrs = uuid text ∷ [];
+      name = name;
+      parent = None;
+      members = members;
+    })
 
--- The tree says this thin interface, whatever the lines are: its one item is a plain interface with this text for its
--- IID, and the members of that are the methods.
+-- The tree says this thin interface, whatever the lines are: its one item is a plain interface
+-- with this text for its IID, and the members of that are the methods.
 pub record IsThinTree (tree : IdlFile) (i : ThinInterface) : Type 0 where
   pub text : List ℕ
   pub members : List Member

@@ -91,8 +91,8 @@ fn are_lawful_methods(methods: &[ThinMethod]) -> bool
     methods.iter().all(|method| is_lawful_method(method))
 }
 
-/// Whether the names in an interface are lawful: none is too long, no two methods have the same, nor two parameters of
-/// one method, and there are not too many of either.
+/// Whether the names in an interface are lawful: none is too long, no two methods have the same,
+/// nor two parameters of one method, and there are not too many of either.
 pub fn is_lawful(thin: &ThinInterface) -> bool
     ensures { result ≡ is_lawful thin.now }
 {

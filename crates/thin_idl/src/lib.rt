@@ -1,4 +1,5 @@
-//! Thin IDL texts: one interface with no parent, whose methods give nothing and take numbers of the type `long`.
+//! Thin IDL texts: one interface with no parent, whose methods give nothing and take numbers of
+//! the type `long`.
 //!
 //! `compile_thin` gives the typelib of such a text, or why a text is none.
 #![tactic(auto)]

@@ -15,8 +15,8 @@ pub enum ThinError {
     /// The text has no tokens. The first place at which none begins is on this line.
     #[error("Token")]
     Token { line: u32 },
-    /// The tokens have no tree. This is the line of the first one that cannot go on, or of the last one where more
-    /// would have to follow it.
+    /// The tokens have no tree. This is the line of the first one that cannot go on, or of the
+    /// last one where more would have to follow it.
     #[error("Syntax")]
     Syntax { line: u32 },
     /// The text has a tree, which is not thin.

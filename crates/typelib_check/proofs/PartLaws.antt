@@ -1,5 +1,5 @@
 -- What is known of parts without a fault when they are read again, by their lengths alone.
-use Rattle.std.proofs.Common.{◌≡◌, ◌≢◌, ℕ, suc, ◌+◌, ◌-◌, ◌<◌, ◌≤◌, List, [], length, Option, Some, None, Bool, true, false, not, arith, refl, sym, ap, ◌∙◌, subst, inl, inr}
+use Rattle.std.proofs.Common.{◌≡◌, ◌≢◌, ℕ, zero, suc, ◌+◌, ◌-◌, ◌<◌, ◌≤◌, List, [], length, Option, Some, None, Bool, true, false, not, arith, refl, sym, ap, ◌∙◌, subst, inl, inr}
 use Rattle.std.specs.Prelude.{option_map, slice_get}
 use Rattle.std.proofs.Math.ListN.{get_or, replicate, set}
 use Rattle.std.proofs.lemmas.List.{get_or-replicate, get_or-set_other, get_or-set_same, length-replicate, length-set}
@@ -134,8 +134,9 @@ constant_value x c e = (constant_known x c e).value
 values_more : {S A : Type 0} (value : S → A) (next : S → S) (s : S) (i number : ℕ) → number ≢ i → slice_get (values value next s (i + 1)) number ≡ slice_get (values value next s i) number
 values_more value next s i number other =
     elim (cases_lt number i) as (λ _. slice_get (values value next s (i + 1)) number ≡ slice_get (values value next s i) number) [
-      inl low ↦ values_get value next s (i + 1) number (omega (arith, low)) ∙ sym (values_get value next s i number low)
-    | inr high ↦ values_past value next s (i + 1) number (omega (arith, high, other)) ∙ sym (values_past value next s i number high) ]
+      | inl low ↦ values_get value next s (i + 1) number (omega (arith, low)) ∙ sym (values_get value next s i number low)
+      | inr high ↦ values_past value next s (i + 1) number (omega (arith, high, other)) ∙ sym (values_past value next s i number high)
+    ]
 
 pub no_tags : HasTags (replicate 256 None) []
 no_tags = λ number low.
@@ -150,13 +151,14 @@ one_more x from i place tag tags low is read before = λ number below.
     in let room : i < length tags = slice_get_within tags i (option_map (λ (p : Param). tag_of p.ty) (slice_get old i)) (before i low)
     in let got : slice_get (set tags i (Some tag)) number ≡ Some (get_or (set tags i (Some tag)) number None) = slice_get-get_or (set tags i (Some tag)) number None (omega (arith, within, length-set tags i (Some tag)))
     in elim (eqb_tells number i) as (λ _. slice_get (set tags i (Some tag)) number ≡ Some (option_map (λ (p : Param). tag_of p.ty) (slice_get new number))) [
-      inl same ↦
-        let here : slice_get new number ≡ Some (param_at x place) = ap (slice_get new) same.1 ∙ (values_get (param_at x) (param_end x) from (i + 1) i (omega arith) ∙ ap (λ (p : ℕ). Some (param_at x p)) (sym is))
-        in let there : get_or (set tags i (Some tag)) number None ≡ Some tag = ap (λ (j : ℕ). get_or (set tags i (Some tag)) j None) same.1 ∙ get_or-set_same tags i (Some tag) None room
-        in got ∙ (ap Some there ∙ (ap (λ (t : ℕ). Some (Some t)) read ∙ ap (λ (o : Option Param). Some (option_map (λ (p : Param). tag_of p.ty) o)) (sym here)))
-    | inr other ↦
-        let kept : get_or (set tags i (Some tag)) number None ≡ get_or tags number None = get_or-set_other tags i number (Some tag) None other.1
-        in got ∙ (ap Some kept ∙ (sym (slice_get-get_or tags number None within) ∙ (before number below ∙ ap (λ (o : Option Param). Some (option_map (λ (p : Param). tag_of p.ty) o)) (sym (values_more (param_at x) (param_end x) from i number other.1))))) ]
+      | inl same ↦
+          let here : slice_get new number ≡ Some (param_at x place) = ap (slice_get new) same.1 ∙ (values_get (param_at x) (param_end x) from (i + 1) i (omega arith) ∙ ap (λ (p : ℕ). Some (param_at x p)) (sym is))
+          in let there : get_or (set tags i (Some tag)) number None ≡ Some tag = ap (λ (j : ℕ). get_or (set tags i (Some tag)) j None) same.1 ∙ get_or-set_same tags i (Some tag) None room
+          in got ∙ (ap Some there ∙ (ap (λ (t : ℕ). Some (Some t)) read ∙ ap (λ (o : Option Param). Some (option_map (λ (p : Param). tag_of p.ty) o)) (sym here)))
+      | inr other ↦
+          let kept : get_or (set tags i (Some tag)) number None ≡ get_or tags number None = get_or-set_other tags i number (Some tag) None other.1
+          in got ∙ (ap Some kept ∙ (sym (slice_get-get_or tags number None within) ∙ (before number below ∙ ap (λ (o : Option Param). Some (option_map (λ (p : Param). tag_of p.ty) o)) (sym (values_more (param_at x) (param_end x) from i number other.1)))))
+    ]
 
 -- ---- loops
 
@@ -165,3 +167,7 @@ pub left_bad : {S : Type 0} (f : S → Option BadTypelib) (g : S → S) {a : S} 
 left_bad f g {n = n} {s = s} {i = i} e left low bad =
     let k : n - i ≡ suc (n - (i + 1)) = omega (arith, low)
     in left.fault ∙ rw (k, bad) refl
+
+pub none_walked : {S : Type 0} (f : S → Option BadTypelib) (g : S → S) (s : S) (n : ℕ) → n ≡ 0 → walk f g s n ≡ None
+none_walked f g s zero e = refl
+none_walked f g s (suc n) e = absurd (omega (arith, e))

@@ -38,8 +38,10 @@ constants_of x constants =
 abbrev pub AreFineEntries : List ℕ → Type 0
 AreFineEntries x = walk (entry_fault x) (entry_next x) (directory_cursor x) (count_of x) ≡ None
 
--- the tag of the parameter of each number that a byte can hold; None where there is no such parameter
+-- the tag of the parameter of each number that a byte can hold; None where there is no such
+-- parameter
 abbrev pub HasTags : List (Option ℕ) → List Param → Type 0
 HasTags tags params =
     (number : ℕ) → number < 256
-    → slice_get tags number ≡ Some (option_map (λ (p : Param). tag_of p.ty) (slice_get params number))
+    → slice_get tags number
+    ≡ Some (option_map (λ (p : Param). tag_of p.ty) (slice_get params number))

@@ -5,12 +5,14 @@ ghost use Rattle.typelib_faults.specs.Faults.{Tries, annotation_end, annotations
 use crate::numbers::half;
 use typelib_faults::{ANNOTATION, BadTypelib};
 
-/// The end of the private annotation at `place`, with its two strings, where it lies inside the file.
+/// The end of the private annotation at `place`, with its two strings, where it lies inside the
+/// file.
 fn private_end(bytes: &[u8], place: usize) -> Option<usize>
     requires within { place < length bytes.now }
     requires private { byte_at bytes.now place % 128 ≡ 1 }
     requires short { length bytes.now < 2 ^ 62 }
-    ensures { MatchOption result (is_annotation bytes.now place ≡ false) (λ end. (is_annotation bytes.now place ≡ true) × (end ≡ annotation_end bytes.now place)) }
+    ensures { MatchOption result (is_annotation bytes.now place ≡ false)
+        (λ end. (is_annotation bytes.now place ≡ true) × (end ≡ annotation_end bytes.now place)) }
 {
     if bytes.len() - place < 5 {
         return None;
@@ -27,7 +29,8 @@ fn private_end(bytes: &[u8], place: usize) -> Option<usize>
 fn end_of_annotation(bytes: &[u8], place: usize) -> Option<usize>
     requires { length bytes.now < 2 ^ 62 }
     ensures inside { OnSome result (place < length bytes.now) }
-    ensures is { MatchOption result (is_annotation bytes.now place ≡ false) (λ end. (is_annotation bytes.now place ≡ true) × (end ≡ annotation_end bytes.now place)) }
+    ensures is { MatchOption result (is_annotation bytes.now place ≡ false)
+        (λ end. (is_annotation bytes.now place ≡ true) × (end ≡ annotation_end bytes.now place)) }
 {
     if place >= bytes.len() {
         return None;

@@ -1,9 +1,10 @@
 ghost use Rattle.std.specs.Prelude.{◌≡◌, ◌+◌, ◌-◌, ◌*◌, ◌≤◌, ◌<◌, None};
 ghost use Rattle.lib_model.specs.Valid.{own_slots, parent_of};
 ghost use Rattle.typelib_faults.specs.Climbs.{climbed, meets, slots_within};
-ghost use Rattle.typelib_faults.specs.Faults.{Tries, chain_fault, directory_cursor, entry_fault, entry_next};
+ghost use Rattle.typelib_faults.specs.Faults.{Tries, chain_fault};
 ghost use Rattle.typelib_faults.specs.Places.{count_of, entries_of};
 ghost use Rattle.typelib_faults.specs.Walk.{walk};
+ghost use Rattle.typelib_check.specs.Parts.{AreFineEntries};
 
 use crate::file::File;
 use crate::interfaces::{DESCRIPTOR_OFFSET, ENTRY_LEN};
@@ -29,7 +30,7 @@ pub fn place_of_entry(file: &File<'_>, number: u16) -> usize
 /// The number of the parent and the number of own methods of the interface of this number.
 #[tactic(auto, using(typelib_faults::proofs::ChainLaws::links_known))]
 pub fn links(file: &File<'_>, number: u16) -> (u16, u16)
-    requires fine { walk (entry_fault file.now.bytes.now) (entry_next file.now.bytes.now) (directory_cursor file.now.bytes.now) (count_of file.now.bytes.now) ≡ None }
+    requires fine { AreFineEntries file.now.bytes.now }
     requires above { 0 < number }
     requires below { number ≤ file.now.count }
     ensures parent { result.0 ≡ parent_of (entries_of file.now.bytes.now) number }
@@ -44,9 +45,10 @@ pub fn links(file: &File<'_>, number: u16) -> (u16, u16)
     (half(file.bytes, place), half(file.bytes, place + 2))
 }
 
-/// The number that as many steps to the parent lead to as a chain may have interfaces, and the slots on the way.
+/// The number that as many steps to the parent lead to as a chain may have interfaces, and the
+/// slots on the way.
 pub fn climb(file: &File<'_>, number: u16) -> (u16, u32)
-    requires fine { walk (entry_fault file.now.bytes.now) (entry_next file.now.bytes.now) (directory_cursor file.now.bytes.now) (count_of file.now.bytes.now) ≡ None }
+    requires fine { AreFineEntries file.now.bytes.now }
     requires below { number ≤ file.now.count }
     ensures top { result.0 ≡ climbed (entries_of file.now.bytes.now) 250 number }
     ensures slots { result.1 ≡ slots_within (entries_of file.now.bytes.now) 250 number }
@@ -79,7 +81,7 @@ fn bad_chain(file: &File<'_>, code: u8, number: u16) -> BadTypelib
 /// Tries the chain of parents of the interface of this number.
 #[tactic(auto, using(typelib_faults::proofs::ChainLaws::far_fault, typelib_faults::proofs::ChainLaws::many_fault, typelib_faults::proofs::ChainLaws::near_fine))]
 fn chain(file: &File<'_>, number: u16) -> Result<(), BadTypelib>
-    requires fine { walk (entry_fault file.now.bytes.now) (entry_next file.now.bytes.now) (directory_cursor file.now.bytes.now) (count_of file.now.bytes.now) ≡ None }
+    requires fine { AreFineEntries file.now.bytes.now }
     requires above { 0 < number }
     requires below { number ≤ file.now.count }
     ensures { Tries result (chain_fault file.now.bytes.now (entries_of file.now.bytes.now) number) }
@@ -96,8 +98,10 @@ fn chain(file: &File<'_>, number: u16) -> Result<(), BadTypelib>
 
 /// Tries the chains of parents of all interfaces.
 pub fn chains(file: &File<'_>) -> Result<(), BadTypelib>
-    requires { walk (entry_fault file.now.bytes.now) (entry_next file.now.bytes.now) (directory_cursor file.now.bytes.now) (count_of file.now.bytes.now) ≡ None }
-    ensures { Tries result (walk (chain_fault file.now.bytes.now (entries_of file.now.bytes.now)) (λ k. k + 1) 1 (count_of file.now.bytes.now)) }
+    requires { AreFineEntries file.now.bytes.now }
+    ensures { Tries result
+        (walk (chain_fault file.now.bytes.now (entries_of file.now.bytes.now)) (λ k. k + 1) 1
+        (count_of file.now.bytes.now)) }
 {
     for before in 0..file.count {
         chain(file, before + 1)?;
@@ -107,7 +111,7 @@ pub fn chains(file: &File<'_>) -> Result<(), BadTypelib>
 
 /// Whether the interface of this number is `from` or descends from it.
 pub fn reaches(file: &File<'_>, number: u16, from: u16) -> bool
-    requires fine { walk (entry_fault file.now.bytes.now) (entry_next file.now.bytes.now) (directory_cursor file.now.bytes.now) (count_of file.now.bytes.now) ≡ None }
+    requires fine { AreFineEntries file.now.bytes.now }
     requires below { number ≤ file.now.count }
     ensures { result ≡ meets (entries_of file.now.bytes.now) from 251 number }
 {

@@ -5,14 +5,14 @@ use crate::chains::chains;
 use crate::file::CheckedFile;
 use crate::header::header;
 use crate::interfaces::entries;
-use lib_model::LONGEST_TYPELIB;
 use typelib_faults::BadTypelib;
+use xp_base::MAX_TYPELIB;
 
-/// The file that these bytes are, of which there are at most `LONGEST_TYPELIB`, where they have no fault. Otherwise the
-/// answer is the first fault, in the order in which a typelib is read.
+/// The file that these bytes are, of which there are at most `MAX_TYPELIB`, where they have no
+/// fault. Otherwise the answer is the first fault, in the order in which a typelib is read.
 #[tactic(auto, unfolding(typelib_faults::specs::Faults::first_fault))]
 pub fn checked(bytes: &[u8]) -> Result<CheckedFile<'_>, BadTypelib>
-    requires { length bytes.now ≤ LONGEST_TYPELIB }
+    requires { length bytes.now ≤ MAX_TYPELIB }
     ensures tries { Tries result (first_fault bytes.now) }
     ensures bytes { IfOk result (λ checked. checked.file.bytes.now ≡ bytes.now) }
 {

@@ -9,25 +9,28 @@ use crate::file::File;
 use crate::items::count_item;
 use crate::names::name;
 use crate::type_forms::{TAG_COUNT, bad_tag, tag};
+use lib_model::tags;
 use typelib_faults::{BadTypelib, Cursor};
 use xp_base::ConstKind;
 
 /// The kind of constant that has this tag.
 fn kind_of_tag(tag: u8) -> Option<ConstKind>
-    ensures { MatchOption result (is_kind_tag tag ≡ false) (λ kind. (is_kind_tag tag ≡ true) × (kind ≡ kind_by_tag tag)) }
+    ensures { MatchOption result (is_kind_tag tag ≡ false)
+        (λ kind. (is_kind_tag tag ≡ true) × (kind ≡ kind_by_tag tag)) }
 {
     match tag {
-        1 => Some(ConstKind::I16),
-        2 => Some(ConstKind::I32),
-        5 => Some(ConstKind::U16),
-        6 => Some(ConstKind::U32),
+        tags::INT16 => Some(ConstKind::I16),
+        tags::INT32 => Some(ConstKind::I32),
+        tags::UINT16 => Some(ConstKind::U16),
+        tags::UINT32 => Some(ConstKind::U32),
         _ => None,
     }
 }
 
 /// The end of a value of this kind that begins at `place`.
 fn value_end(file: &File<'_>, kind: ConstKind, place: usize) -> Result<usize, BadTypelib>
-    ensures { Gives (λ v. v) result (past file.now.bytes.now place (value_len kind)) (place + value_len kind) }
+    ensures { Gives (λ v. v) result (past file.now.bytes.now place (value_len kind))
+        (place + value_len kind) }
 {
     match kind {
         ConstKind::I16 | ConstKind::U16 => {
@@ -44,7 +47,8 @@ fn value_end(file: &File<'_>, kind: ConstKind, place: usize) -> Result<usize, Ba
 /// The cursor behind the constant at a cursor.
 #[tactic(auto, unfolding(typelib_faults::specs::Faults::constant_fault, typelib_faults::specs::Places::constant_end))]
 pub fn constant(file: &File<'_>, at: Cursor) -> Result<Cursor, BadTypelib>
-    ensures { Gives (λ v. v) result (constant_fault file.now.bytes.now at) (constant_next file.now.bytes.now at) }
+    ensures { Gives (λ v. v) result (constant_fault file.now.bytes.now at)
+        (constant_next file.now.bytes.now at) }
 {
     count_item(at)?;
     word(file, at.place)?;
@@ -64,7 +68,9 @@ pub fn constant(file: &File<'_>, at: Cursor) -> Result<Cursor, BadTypelib>
 
 /// The cursor behind so many constants, which begin at a cursor.
 pub fn constants(file: &File<'_>, from: Cursor, count: u16) -> Result<Cursor, BadTypelib>
-    ensures { Gives (λ v. v) result (walk (constant_fault file.now.bytes.now) (constant_next file.now.bytes.now) from count) (reach (constant_next file.now.bytes.now) from count) }
+    ensures { Gives (λ v. v) result
+        (walk (constant_fault file.now.bytes.now) (constant_next file.now.bytes.now) from count)
+        (reach (constant_next file.now.bytes.now) from count) }
 {
     let mut at = from;
     for _ in 0..count {

@@ -18,7 +18,8 @@ fn past_end(place: usize) -> BadTypelib
 
 /// The byte at `place`.
 pub fn byte(file: &File<'_>, place: usize) -> Result<u8, BadTypelib>
-    ensures gives { Gives (λ v. v) result (past file.now.bytes.now place 1) (byte_at file.now.bytes.now place) }
+    ensures gives { Gives (λ v. v) result (past file.now.bytes.now place 1)
+        (byte_at file.now.bytes.now place) }
     ensures inside { OnOk result (place + 1 ≤ length file.now.bytes.now) }
 {
     if place < file.bytes.len() {
@@ -30,7 +31,8 @@ pub fn byte(file: &File<'_>, place: usize) -> Result<u8, BadTypelib>
 
 /// The number in two bytes from `place` on.
 pub fn half(file: &File<'_>, place: usize) -> Result<u16, BadTypelib>
-    ensures gives { Gives (λ v. v) result (past file.now.bytes.now place 2) (half_at file.now.bytes.now place) }
+    ensures gives { Gives (λ v. v) result (past file.now.bytes.now place 2)
+        (half_at file.now.bytes.now place) }
     ensures inside { OnOk result (place + 2 ≤ length file.now.bytes.now) }
 {
     let len = file.bytes.len();
@@ -43,7 +45,8 @@ pub fn half(file: &File<'_>, place: usize) -> Result<u16, BadTypelib>
 
 /// The number in four bytes from `place` on.
 pub fn word(file: &File<'_>, place: usize) -> Result<u32, BadTypelib>
-    ensures gives { Gives (λ v. v) result (past file.now.bytes.now place 4) (word_at file.now.bytes.now place) }
+    ensures gives { Gives (λ v. v) result (past file.now.bytes.now place 4)
+        (word_at file.now.bytes.now place) }
     ensures inside { OnOk result (place + 4 ≤ length file.now.bytes.now) }
 {
     let len = file.bytes.len();

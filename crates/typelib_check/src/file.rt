@@ -4,7 +4,8 @@ ghost use Rattle.typelib_faults.specs.Bytes.{AreBytes};
 ghost use Rattle.typelib_faults.specs.Laws.{IsFine};
 ghost use Rattle.typelib_faults.specs.Places.{count_of, directory_of};
 
-/// A file whose header has no fault: its bytes, and the numbers of the header that every part needs.
+/// A file whose header has no fault: its bytes, and the numbers of the header that every part
+/// needs.
 #[derive(Clone, Copy)]
 pub struct File<'a> {
     /// The whole file.

@@ -56,7 +56,8 @@ fn parent(file: &File<'_>, place: usize) -> Result<(), BadTypelib>
 /// The number of items when the descriptor at a cursor has been read.
 #[tactic(auto, unfolding(typelib_faults::specs::Faults::descriptor_fault))]
 fn descriptor(file: &File<'_>, at: Cursor) -> Result<u32, BadTypelib>
-    ensures { Gives (λ v. v) result (descriptor_fault file.now.bytes.now at) (constants_reach file.now.bytes.now at).items }
+    ensures { Gives (λ v. v) result (descriptor_fault file.now.bytes.now at)
+        (constants_reach file.now.bytes.now at).items }
 {
     half(file, at.place)?;
     parent(file, at.place)?;
@@ -76,12 +77,14 @@ fn descriptor(file: &File<'_>, at: Cursor) -> Result<u32, BadTypelib>
     Ok(end.items)
 }
 
-/// The number of items when the descriptor has been read of the entry at a cursor, which has been counted.
+/// The number of items when the descriptor has been read of the entry at a cursor, which has been
+/// counted.
 #[tactic(auto, unfolding(typelib_faults::specs::Faults::body_fault, typelib_faults::specs::Faults::items_after))]
 fn body(file: &File<'_>, at: Cursor) -> Result<u32, BadTypelib>
     requires inside { at.place + 28 ≤ length file.now.bytes.now }
     requires few { at.items < 1000000 }
-    ensures { Gives (λ v. v) result (body_fault file.now.bytes.now at) (items_after file.now.bytes.now at) }
+    ensures { Gives (λ v. v) result (body_fault file.now.bytes.now at)
+        (items_after file.now.bytes.now at) }
 {
     let offset = numbers::word(file.bytes, at.place + DESCRIPTOR_OFFSET);
     let items = at.items + 1;
@@ -96,7 +99,8 @@ fn body(file: &File<'_>, at: Cursor) -> Result<u32, BadTypelib>
 #[tactic(auto, unfolding(typelib_faults::specs::Faults::entry_fault))]
 fn entry(file: &File<'_>, at: Cursor) -> Result<Cursor, BadTypelib>
     requires { at.place + 28 ≤ length file.now.bytes.now }
-    ensures { Gives (λ v. v) result (entry_fault file.now.bytes.now at) (entry_next file.now.bytes.now at) }
+    ensures { Gives (λ v. v) result (entry_fault file.now.bytes.now at)
+        (entry_next file.now.bytes.now at) }
 {
     count_item(at)?;
     name(file, at.place + NAME_OFFSET)?;
@@ -110,7 +114,9 @@ fn entry(file: &File<'_>, at: Cursor) -> Result<Cursor, BadTypelib>
 
 /// Tries the entries of the directory.
 pub fn entries(file: &File<'_>) -> Result<(), BadTypelib>
-    ensures { Tries result (walk (entry_fault file.now.bytes.now) (entry_next file.now.bytes.now) (directory_cursor file.now.bytes.now) (count_of file.now.bytes.now)) }
+    ensures { Tries result
+        (walk (entry_fault file.now.bytes.now) (entry_next file.now.bytes.now)
+        (directory_cursor file.now.bytes.now) (count_of file.now.bytes.now)) }
 {
     let mut at = Cursor {
         place: file.directory,

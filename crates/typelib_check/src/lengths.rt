@@ -9,6 +9,7 @@ ghost use Rattle.typelib_check.specs.Parts.{AreFineConstants, AreFineMethods, Ar
 use crate::file::File;
 use crate::parts::{Constants, Methods, Params};
 use crate::type_forms::TAG_COUNT;
+use lib_model::tags;
 use typelib_faults::Cursor;
 
 /// How many bytes the element's type has that begins at `place`, which has no fault.
@@ -18,8 +19,8 @@ fn elem_bytes(file: &File<'_>, place: usize) -> usize
     ensures { result ≡ elem_len (elem_at file.now.bytes.now place) }
 {
     match file.bytes[place] % TAG_COUNT {
-        18 => 3,
-        19 => 2,
+        tags::INTERFACE => 3,
+        tags::INTERFACE_IS => 2,
         _ => 1,
     }
 }
@@ -31,9 +32,9 @@ fn type_bytes(file: &File<'_>, place: usize) -> usize
     ensures { result ≡ type_len (type_at file.now.bytes.now place) }
 {
     match file.bytes[place] % TAG_COUNT {
-        18 | 21 | 22 => 3,
-        19 => 2,
-        20 => 3 + elem_bytes(file, place + 3),
+        tags::INTERFACE | tags::SIZED_STRING | tags::SIZED_WSTRING => 3,
+        tags::INTERFACE_IS => 2,
+        tags::ARRAY => 3 + elem_bytes(file, place + 3),
         _ => 1,
     }
 }
@@ -92,7 +93,7 @@ fn value_bytes(tag: u8) -> usize
     ensures short { result ≤ 4 }
 {
     match tag {
-        1 | 5 => 2,
+        tags::INT16 | tags::UINT16 => 2,
         _ => 4,
     }
 }

@@ -1,5 +1,5 @@
-//! A typelib is checked where it stands, with no memory: its first fault, or a file whose parts can be read again without
-//! one.
+//! A typelib is checked where it stands, with no memory: its first fault, or a file whose parts
+//! can be read again without one.
 #![tactic(auto)]
 
 mod annotations;

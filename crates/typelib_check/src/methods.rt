@@ -13,7 +13,8 @@ use typelib_faults::{BadTypelib, Cursor};
 /// The cursor behind the method at a cursor.
 #[tactic(auto, unfolding(typelib_faults::specs::Faults::method_fault, typelib_faults::specs::Places::method_end))]
 pub fn method(file: &File<'_>, at: Cursor) -> Result<Cursor, BadTypelib>
-    ensures { Gives (λ v. v) result (method_fault file.now.bytes.now at) (method_next file.now.bytes.now at) }
+    ensures { Gives (λ v. v) result (method_fault file.now.bytes.now at)
+        (method_next file.now.bytes.now at) }
 {
     count_item(at)?;
     byte(file, at.place)?;
@@ -35,7 +36,9 @@ pub fn method(file: &File<'_>, at: Cursor) -> Result<Cursor, BadTypelib>
 
 /// The cursor behind so many methods, which begin at a cursor.
 pub fn methods(file: &File<'_>, from: Cursor, count: u16) -> Result<Cursor, BadTypelib>
-    ensures { Gives (λ v. v) result (walk (method_fault file.now.bytes.now) (method_next file.now.bytes.now) from count) (reach (method_next file.now.bytes.now) from count) }
+    ensures { Gives (λ v. v) result
+        (walk (method_fault file.now.bytes.now) (method_next file.now.bytes.now) from count)
+        (reach (method_next file.now.bytes.now) from count) }
 {
     let mut at = from;
     for _ in 0..count {

@@ -76,7 +76,8 @@ fn no_name(place: usize) -> BadTypelib
 #[tactic(auto, unfolding(typelib_faults::specs::Faults::name_fault, typelib_faults::specs::Places::name_at))]
 pub fn name<'a>(file: &File<'a>, place: usize) -> Result<&'a [u8], BadTypelib>
     requires { place + 4 ≤ length file.now.bytes.now }
-    ensures { Gives (λ v. v.now) result (name_fault file.now.bytes.now place) (name_at file.now.bytes.now place) }
+    ensures { Gives (λ v. v.now) result (name_fault file.now.bytes.now place)
+        (name_at file.now.bytes.now place) }
 {
     let offset = numbers::word(file.bytes, place);
     if offset == 0 {
@@ -105,7 +106,8 @@ pub fn known_name<'a>(file: &File<'a>, place: usize) -> &'a [u8]
 #[tactic(auto, unfolding(typelib_faults::specs::Faults::namespace_fault, typelib_faults::specs::Places::namespace_at, typelib_faults::specs::Places::name_at))]
 pub fn namespace<'a>(file: &File<'a>, place: usize) -> Result<Option<&'a [u8]>, BadTypelib>
     requires { place + 4 ≤ length file.now.bytes.now }
-    ensures { Gives (option_map (λ v. v.now)) result (namespace_fault file.now.bytes.now place) (namespace_at file.now.bytes.now place) }
+    ensures { Gives (option_map (λ v. v.now)) result (namespace_fault file.now.bytes.now place)
+        (namespace_at file.now.bytes.now place) }
 {
     let offset = numbers::word(file.bytes, place);
     if offset == 0 {

@@ -10,9 +10,6 @@ use crate::type_forms::{len_of_type, type_form};
 use lib_model::{Elem, Param, ParamFlags, XType};
 use typelib_faults::{BadTypelib, Cursor, NUMBER};
 
-/// The bits of a parameter's flags that are known.
-const KNOWN: u8 = 0x80 | 0x40 | 0x20 | 0x10 | 0x08 | 0x04;
-
 /// Tries whether this is the number of an interface; it stands at `place`.
 fn number(file: &File<'_>, number: u16, place: usize) -> Result<(), BadTypelib>
     ensures { Tries result (number_fault (count_of file.now.bytes.now) number place) }
@@ -52,7 +49,8 @@ fn type_number(file: &File<'_>, ty: XType, place: usize) -> Result<(), BadTypeli
 /// The type that begins at `place`, where it names no interface that is not there.
 #[tactic(auto, unfolding(typelib_faults::specs::Faults::type_fault))]
 fn type_of_param(file: &File<'_>, place: usize) -> Result<XType, BadTypelib>
-    ensures gives { Gives (λ v. v) result (type_fault file.now.bytes.now place) (type_at file.now.bytes.now place) }
+    ensures gives { Gives (λ v. v) result (type_fault file.now.bytes.now place)
+        (type_at file.now.bytes.now place) }
     ensures inside { OnOk result (place < length file.now.bytes.now) }
 {
     let ty = type_form(file, place)?;
@@ -63,11 +61,12 @@ fn type_of_param(file: &File<'_>, place: usize) -> Result<XType, BadTypelib>
 /// The parameter at a cursor, and the cursor behind it.
 #[tactic(auto, unfolding(typelib_faults::specs::Faults::param_fault))]
 pub fn param(file: &File<'_>, at: Cursor) -> Result<(Param, Cursor), BadTypelib>
-    ensures gives { Gives (λ v. v) result (param_fault file.now.bytes.now at) (param_at file.now.bytes.now at.place, param_next file.now.bytes.now at) }
+    ensures gives { Gives (λ v. v) result (param_fault file.now.bytes.now at)
+        (param_at file.now.bytes.now at.place, param_next file.now.bytes.now at) }
     ensures inside { OnOk result (at.place < length file.now.bytes.now) }
 {
     count_item(at)?;
-    let bits = byte(file, at.place)? & KNOWN;
+    let bits = byte(file, at.place)? & ParamFlags::KNOWN;
     let ty = type_of_param(file, at.place + 1)?;
     let next = Cursor {
         place: at.place + 1 + len_of_type(ty),
@@ -80,8 +79,11 @@ pub fn param(file: &File<'_>, at: Cursor) -> Result<(Param, Cursor), BadTypelib>
 /// The cursor behind so many parameters, which begin at a cursor.
 #[tactic(auto, using(typelib_faults::proofs::MemberLaws::params_place, typelib_faults::proofs::MemberLaws::params_items))]
 pub fn params(file: &File<'_>, from: Cursor, count: u8) -> Result<Cursor, BadTypelib>
-    ensures gives { Gives (λ v. v) result (walk (param_fault file.now.bytes.now) (param_next file.now.bytes.now) from count) (reach (param_next file.now.bytes.now) from count) }
-    ensures place { IfOk result (λ c. c.place ≡ reach (param_end file.now.bytes.now) from.place count) }
+    ensures gives { Gives (λ v. v) result
+        (walk (param_fault file.now.bytes.now) (param_next file.now.bytes.now) from count)
+        (reach (param_next file.now.bytes.now) from count) }
+    ensures place { IfOk result
+        (λ c. c.place ≡ reach (param_end file.now.bytes.now) from.place count) }
     ensures items { IfOk result (λ c. c.items ≡ from.items + count) }
 {
     let mut at = from;
@@ -95,7 +97,8 @@ pub fn params(file: &File<'_>, from: Cursor, count: u8) -> Result<Cursor, BadTyp
 /// The end of the result parameter that begins at `place`. Of it only the form of its type counts.
 #[tactic(auto, unfolding(typelib_faults::specs::Faults::result_fault))]
 pub fn result_end(file: &File<'_>, place: usize) -> Result<usize, BadTypelib>
-    ensures { Gives (λ v. v) result (result_fault file.now.bytes.now place) (param_end file.now.bytes.now place) }
+    ensures { Gives (λ v. v) result (result_fault file.now.bytes.now place)
+        (param_end file.now.bytes.now place) }
 {
     byte(file, place)?;
     let ty = type_form(file, place + 1)?;

@@ -5,7 +5,7 @@ ghost use Rattle.typelib_faults.specs.Places.{elem_at, elem_len, type_at, type_l
 
 use crate::fields::{byte, half};
 use crate::file::File;
-use lib_model::{Elem, XType};
+use lib_model::{Elem, XType, tags};
 use typelib_faults::{BadTypelib, TAG};
 
 /// How many tags there are: the low five bits of a type's byte are its tag.
@@ -23,7 +23,8 @@ pub fn bad_tag(place: usize) -> BadTypelib
 
 /// The tag of the type whose byte stands at `place`.
 pub fn tag(file: &File<'_>, place: usize) -> Result<u8, BadTypelib>
-    ensures gives { Gives (λ v. v) result (past file.now.bytes.now place 1) (tag_at file.now.bytes.now place) }
+    ensures gives { Gives (λ v. v) result (past file.now.bytes.now place 1)
+        (tag_at file.now.bytes.now place) }
     ensures inside { OnOk result (place < length file.now.bytes.now) }
 {
     Ok(byte(file, place)? % TAG_COUNT)
@@ -32,12 +33,14 @@ pub fn tag(file: &File<'_>, place: usize) -> Result<u8, BadTypelib>
 /// The type of an element, which begins at `place`. Its numbers are taken as they are.
 #[tactic(auto, unfolding(typelib_faults::specs::Faults::elem_form_fault, typelib_faults::specs::Places::elem_at))]
 fn elem_form(file: &File<'_>, place: usize) -> Result<Elem, BadTypelib>
-    ensures { Gives (λ v. v) result (elem_form_fault file.now.bytes.now place) (elem_at file.now.bytes.now place) }
+    ensures { Gives (λ v. v) result (elem_form_fault file.now.bytes.now place)
+        (elem_at file.now.bytes.now place) }
 {
     match tag(file, place)? {
-        18 => Ok(Elem::Iface(half(file, place + 1)?)),
-        19 => Ok(Elem::IidIs(byte(file, place + 1)?)),
-        20..=22 | 27.. => Err(bad_tag(place)),
+        tags::INTERFACE => Ok(Elem::Iface(half(file, place + 1)?)),
+        tags::INTERFACE_IS => Ok(Elem::IidIs(byte(file, place + 1)?)),
+        tags::ARRAY..=tags::SIZED_WSTRING => Err(bad_tag(place)),
+        tag if tag > tags::JSVAL => Err(bad_tag(place)),
         tag => Ok(Elem::Plain(tag)),
     }
 }
@@ -45,26 +48,27 @@ fn elem_form(file: &File<'_>, place: usize) -> Result<Elem, BadTypelib>
 /// The type that begins at `place`. Its numbers are taken as they are.
 #[tactic(auto, unfolding(typelib_faults::specs::Faults::form_fault, typelib_faults::specs::Places::type_at))]
 pub fn type_form(file: &File<'_>, place: usize) -> Result<XType, BadTypelib>
-    ensures gives { Gives (λ v. v) result (form_fault file.now.bytes.now place) (type_at file.now.bytes.now place) }
+    ensures gives { Gives (λ v. v) result (form_fault file.now.bytes.now place)
+        (type_at file.now.bytes.now place) }
     ensures inside { OnOk result (place < length file.now.bytes.now) }
 {
     match tag(file, place)? {
-        18 => Ok(XType::Iface(half(file, place + 1)?)),
-        19 => Ok(XType::IidIs(byte(file, place + 1)?)),
-        20 => Ok(XType::Array {
+        tags::INTERFACE => Ok(XType::Iface(half(file, place + 1)?)),
+        tags::INTERFACE_IS => Ok(XType::IidIs(byte(file, place + 1)?)),
+        tags::ARRAY => Ok(XType::Array {
             size: byte(file, place + 1)?,
             len: byte(file, place + 2)?,
             elem: elem_form(file, place + 3)?,
         }),
-        21 => Ok(XType::SizedString {
+        tags::SIZED_STRING => Ok(XType::SizedString {
             size: byte(file, place + 1)?,
             len: byte(file, place + 2)?,
         }),
-        22 => Ok(XType::SizedWString {
+        tags::SIZED_WSTRING => Ok(XType::SizedWString {
             size: byte(file, place + 1)?,
             len: byte(file, place + 2)?,
         }),
-        27.. => Err(bad_tag(place)),
+        tag if tag > tags::JSVAL => Err(bad_tag(place)),
         tag => Ok(XType::Plain(tag)),
     }
 }

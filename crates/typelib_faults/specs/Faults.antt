@@ -1,4 +1,5 @@
--- The first fault of bytes that are no typelib, in the order in which a typelib is read, with its code and its place:
+-- The first fault of bytes that are no typelib, in the order in which a typelib is read, with its
+-- code and its place:
 --
 --     1  fewer than 32 bytes                              the length
 --     2  another magic                                    0
@@ -25,6 +26,7 @@
 use Rattle.std.specs.Prelude.{◌≡◌, ℕ, zero, suc, ◌+◌, ◌-◌, ◌*◌, ◌%◌, List, length, take, slice_get, Option, Some, None, Result, Ok, Err, is_some, sum_by, Bool, true, false, not, ◌&&◌, ◌||◌, if◌then◌else◌, ◌==◌, nat_lt, nat_le}
 use Rattle.std.specs.Str.{bytes_eq}
 use Rattle.lib_model.specs.declared.contents.Iface.{Iface}
+use Rattle.lib_model.specs.declared.tags.TheConstants as tags
 use Rattle.lib_model.specs.declared.param_types.Param.{Param}
 use Rattle.lib_model.specs.declared.param_types.XType.{XType}
 use Rattle.lib_model.specs.declared.param_types.XType.TheVariants as types
@@ -47,7 +49,8 @@ past x p n = faulty (nat_lt (length x) (p + n)) 15 p
 -- where an annotation ends
 abbrev pub annotation_end : List ℕ → ℕ → ℕ
 annotation_end x p =
-    if byte_at x p % 128 == 0 then p + 1 else p + 5 + half_at x (p + 1) + half_at x (p + 3 + half_at x (p + 1))
+    if byte_at x p % 128 == 0 then p + 1
+    else p + 5 + half_at x (p + 1) + half_at x (p + 3 + half_at x (p + 1))
 
 abbrev pub is_annotation : List ℕ → ℕ → Bool
 is_annotation x p = nat_lt (byte_at x p % 128) 2 && nat_le (annotation_end x p) (length x)
@@ -61,7 +64,8 @@ annotations_fault x (suc n) p =
 
 abbrev pub is_directory_past : List ℕ → Bool
 is_directory_past x =
-    not (count_of x == 0) && (word_at x 24 == 0 || nat_lt (length x) (directory_of x + 28 * count_of x))
+    not (count_of x == 0)
+    && (word_at x 24 == 0 || nat_lt (length x) (directory_of x + 28 * count_of x))
 
 unfoldable pub header_fault : List ℕ → Option BadTypelib
 header_fault x =
@@ -85,16 +89,20 @@ is_present None = false
 is_present (Some n) = nat_lt 0 n
 
 unfoldable pub name_fault : List ℕ → ℕ → Option BadTypelib
-name_fault x p = faulty (word_at x p == 0 || not (is_present (text_len x (place_of x (word_at x p))))) 8 p
+name_fault x p = faulty
+    (word_at x p == 0 || not (is_present (text_len x (place_of x (word_at x p))))) 8 p
 
 unfoldable pub namespace_fault : List ℕ → ℕ → Option BadTypelib
-namespace_fault x p = faulty (not (word_at x p == 0) && not (is_some (text_len x (place_of x (word_at x p))))) 8 p
+namespace_fault x p = faulty
+    (not (word_at x p == 0) && not (is_some (text_len x (place_of x (word_at x p))))) 8 p
 
 -- ---- types and parameters
 
 -- the bytes of an element's type lie inside the file, and its tag is known; then of a type
 abbrev pub elem_rest_fault : List ℕ → ℕ → Elem → Option BadTypelib
-elem_rest_fault x p (elems.Plain tag) = faulty (nat_lt 26 tag || (nat_le 20 tag && nat_le tag 22)) 11 p
+elem_rest_fault x p (elems.Plain tag) = faulty
+    (nat_lt tags.JSVAL tag || (nat_le tags.ARRAY tag && nat_le tag tags.SIZED_WSTRING))
+    11 p
 elem_rest_fault x p (elems.Iface number) = past x (p + 1) 2
 elem_rest_fault x p (elems.IidIs param) = past x (p + 1) 1
 
@@ -102,10 +110,11 @@ unfoldable pub elem_form_fault : List ℕ → ℕ → Option BadTypelib
 elem_form_fault x p = past x p 1 orelse elem_rest_fault x p (elem_at x p)
 
 abbrev pub type_rest_fault : List ℕ → ℕ → XType → Option BadTypelib
-type_rest_fault x p (types.Plain tag) = faulty (nat_lt 26 tag) 11 p
+type_rest_fault x p (types.Plain tag) = faulty (nat_lt tags.JSVAL tag) 11 p
 type_rest_fault x p (types.Iface number) = past x (p + 1) 2
 type_rest_fault x p (types.IidIs param) = past x (p + 1) 1
-type_rest_fault x p (types.Array size len elem) = past x (p + 1) 1 orelse past x (p + 2) 1 orelse elem_form_fault x (p + 3)
+type_rest_fault x p (types.Array size len elem) = past x (p + 1) 1 orelse past x (p + 2) 1
+    orelse elem_form_fault x (p + 3)
 type_rest_fault x p (types.SizedString size len) = past x (p + 1) 1 orelse past x (p + 2) 1
 type_rest_fault x p (types.SizedWString size len) = past x (p + 1) 1 orelse past x (p + 2) 1
 
@@ -146,11 +155,11 @@ result_fault x p = past x p 1 orelse form_fault x (p + 1)
 
 abbrev pub has_count_tag : Option Param → Bool
 has_count_tag None = false
-has_count_tag (Some p) = nat_le (tag_of p.ty) 7
+has_count_tag (Some p) = nat_le (tag_of p.ty) tags.UINT64
 
 abbrev pub has_iid_tag : Option Param → Bool
 has_iid_tag None = false
-has_iid_tag (Some p) = tag_of p.ty == 14
+has_iid_tag (Some p) = tag_of p.ty == tags.NSID
 
 abbrev pub count_arg_fault : List Param → ℕ → ℕ → Option BadTypelib
 count_arg_fault params number p = faulty (not (has_count_tag (slice_get params number))) 12 p
@@ -168,9 +177,12 @@ type_args_fault params p (types.Plain tag) = None
 type_args_fault params p (types.Iface number) = None
 type_args_fault params p (types.IidIs param) = iid_arg_fault params param (p + 1)
 type_args_fault params p (types.Array size len elem) =
-    count_arg_fault params size (p + 1) orelse count_arg_fault params len (p + 2) orelse elem_args_fault params (p + 3) elem
-type_args_fault params p (types.SizedString size len) = count_arg_fault params size (p + 1) orelse count_arg_fault params len (p + 2)
-type_args_fault params p (types.SizedWString size len) = count_arg_fault params size (p + 1) orelse count_arg_fault params len (p + 2)
+    count_arg_fault params size (p + 1) orelse count_arg_fault params len (p + 2)
+    orelse elem_args_fault params (p + 3) elem
+type_args_fault params p (types.SizedString size len) = count_arg_fault params size (p + 1)
+    orelse count_arg_fault params len (p + 2)
+type_args_fault params p (types.SizedWString size len) = count_arg_fault params size (p + 1)
+    orelse count_arg_fault params len (p + 2)
 
 -- of the parameter at place p, in a method with these parameters
 abbrev pub args_fault : List ℕ → List Param → ℕ → Option BadTypelib
@@ -191,13 +203,16 @@ method_fault x c =
     orelse past x (c.place + 5) 1
     orelse walk (param_fault x) (param_next x) (params_cursor c) (param_count_at x c.place)
     orelse result_fault x (params_end x c.place)
-    orelse walk (args_fault x (params_at x c.place)) (param_end x) (c.place + 6) (param_count_at x c.place)
+    orelse walk (args_fault x (params_at x c.place)) (param_end x) (c.place + 6)
+    (param_count_at x c.place)
 
 abbrev pub method_next : List ℕ → Cursor → Cursor
-method_next x c = record { place = method_end x c.place; items = c.items + 1 + param_count_at x c.place }
+method_next x c = record
+    { place = method_end x c.place; items = c.items + 1 + param_count_at x c.place }
 
 abbrev pub is_kind_tag : ℕ → Bool
-is_kind_tag tag = (tag == 1 || tag == 2) || (tag == 5 || tag == 6)
+is_kind_tag tag = (tag == tags.INT16 || tag == tags.INT32)
+    || (tag == tags.UINT16 || tag == tags.UINT32)
 
 unfoldable pub constant_fault : List ℕ → Cursor → Option BadTypelib
 constant_fault x c =
@@ -233,7 +248,8 @@ constants_cursor m = record { place = m.place + 2; items = m.items }
 
 abbrev pub constants_reach : List ℕ → Cursor → Cursor
 constants_reach x c =
-    reach (constant_next x) (constants_cursor (methods_reach x c)) (half_at x (methods_reach x c).place)
+    reach (constant_next x) (constants_cursor (methods_reach x c))
+    (half_at x (methods_reach x c).place)
 
 unfoldable pub descriptor_fault : List ℕ → Cursor → Option BadTypelib
 descriptor_fault x c =
@@ -242,23 +258,28 @@ descriptor_fault x c =
     orelse past x (c.place + 2) 2
     orelse walk (method_fault x) (method_next x) (methods_cursor c) (half_at x (c.place + 2))
     orelse past x (methods_reach x c).place 2
-    orelse walk (constant_fault x) (constant_next x) (constants_cursor (methods_reach x c)) (half_at x (methods_reach x c).place)
+    orelse walk (constant_fault x) (constant_next x) (constants_cursor (methods_reach x c))
+    (half_at x (methods_reach x c).place)
     orelse past x (constants_reach x c).place 1
 
 -- the descriptor that the entry at c has, read when the entry is counted
 abbrev pub descriptor_cursor : List ℕ → Cursor → Cursor
-descriptor_cursor x c = record { place = place_of x (word_at x (c.place + 24)); items = c.items + 1 }
+descriptor_cursor x c = record
+    { place = place_of x (word_at x (c.place + 24)); items = c.items + 1 }
 
 unfoldable pub body_fault : List ℕ → Cursor → Option BadTypelib
-body_fault x c = if word_at x (c.place + 24) == 0 then None else descriptor_fault x (descriptor_cursor x c)
+body_fault x c = if word_at x (c.place + 24) == 0 then None
+    else descriptor_fault x (descriptor_cursor x c)
 
 -- how many items have been counted when the entry at c has been read
 unfoldable pub items_after : List ℕ → Cursor → ℕ
-items_after x c = if word_at x (c.place + 24) == 0 then c.items + 1 else (constants_reach x (descriptor_cursor x c)).items
+items_after x c = if word_at x (c.place + 24) == 0 then c.items + 1
+    else (constants_reach x (descriptor_cursor x c)).items
 
 unfoldable pub entry_fault : List ℕ → Cursor → Option BadTypelib
 entry_fault x c =
-    item_fault c orelse name_fault x (c.place + 16) orelse namespace_fault x (c.place + 20) orelse body_fault x c
+    item_fault c orelse name_fault x (c.place + 16) orelse namespace_fault x (c.place + 20)
+    orelse body_fault x c
 
 abbrev pub entry_next : List ℕ → Cursor → Cursor
 entry_next x c = record { place = c.place + 28; items = items_after x c }
@@ -269,7 +290,8 @@ entry_next x c = record { place = c.place + 28; items = items_after x c }
 unfoldable pub chain_fault : List ℕ → List Iface → ℕ → Option BadTypelib
 chain_fault x ifaces number =
     faulty (nat_lt 250 (length (chain_of ifaces number))) 10 (directory_of x + 28 * (number - 1))
-    orelse faulty (nat_lt 250 (sum_by (own_slots ifaces) (chain_of ifaces number))) 14 (directory_of x + 28 * (number - 1))
+    orelse faulty (nat_lt 250 (sum_by (own_slots ifaces) (chain_of ifaces number))) 14
+    (directory_of x + 28 * (number - 1))
 
 -- ---- files
 

@@ -1,4 +1,5 @@
--- What the first fault says: bytes are a typelib where they have none, and else it names their first one.
+-- What the first fault says: bytes are a typelib where they have none, and else it names their
+-- first one.
 use Rattle.std.specs.Prelude.{◌≡◌, List, ℕ, Some, None}
 use Rattle.typelib_faults.specs.declared.faults.BadTypelib.{BadTypelib}
 use Rattle.typelib_faults.specs.Faults.{first_fault}

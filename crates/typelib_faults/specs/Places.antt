@@ -1,5 +1,6 @@
--- What a typelib's bytes say at a place, and where the part that begins there ends. All of it is there for any bytes: past the
--- end a byte is 0, and a text that no byte 0 ends is empty. Whether bytes are a typelib is said by their first fault.
+-- What a typelib's bytes say at a place, and where the part that begins there ends. All of it is
+-- there for any bytes: past the end a byte is 0, and a text that no byte 0 ends is empty. Whether
+-- bytes are a typelib is said by their first fault.
 use Rattle.std.specs.Prelude.{ℕ, ◌+◌, ◌-◌, List, take, drop, Option, Some, None, unwrap_or, if◌then◌else◌, ◌==◌}
 use Rattle.std.specs.List.{position}
 use Rattle.std.specs.Int.RustNames.{bit_and}
@@ -10,6 +11,7 @@ use Rattle.lib_model.specs.declared.contents.Iface.{Iface}
 use Rattle.lib_model.specs.declared.contents.Body.{Body}
 use Rattle.lib_model.specs.declared.contents.Method.{Method}
 use Rattle.lib_model.specs.declared.contents.Constant.{Constant}
+use Rattle.lib_model.specs.declared.tags.TheConstants as tags
 use Rattle.lib_model.specs.declared.param_types.Param.{Param}
 use Rattle.lib_model.specs.declared.param_types.XType.{XType}
 use Rattle.lib_model.specs.declared.param_types.XType.TheVariants as types
@@ -23,19 +25,21 @@ use Rattle.typelib_faults.specs.Walk.{reach, values}
 
 abbrev pub elem_by_tag : List ℕ → ℕ → ℕ → Elem
 elem_by_tag x p tag =
-    if tag == 18 then elems.Iface (half_at x (p + 1))
-    else (if tag == 19 then elems.IidIs (byte_at x (p + 1)) else elems.Plain tag)
+    if tag == tags.INTERFACE then elems.Iface (half_at x (p + 1))
+    else (if tag == tags.INTERFACE_IS then elems.IidIs (byte_at x (p + 1)) else elems.Plain tag)
 
 unfoldable pub elem_at : List ℕ → ℕ → Elem
 elem_at x p = elem_by_tag x p (tag_at x p)
 
 abbrev pub type_by_tag : List ℕ → ℕ → ℕ → XType
 type_by_tag x p tag =
-    if tag == 18 then types.Iface (half_at x (p + 1))
-    else (if tag == 19 then types.IidIs (byte_at x (p + 1))
-    else (if tag == 20 then types.Array (byte_at x (p + 1)) (byte_at x (p + 2)) (elem_at x (p + 3))
-    else (if tag == 21 then types.SizedString (byte_at x (p + 1)) (byte_at x (p + 2))
-    else (if tag == 22 then types.SizedWString (byte_at x (p + 1)) (byte_at x (p + 2))
+    if tag == tags.INTERFACE then types.Iface (half_at x (p + 1))
+    else (if tag == tags.INTERFACE_IS then types.IidIs (byte_at x (p + 1))
+    else (if tag == tags.ARRAY
+    then types.Array (byte_at x (p + 1)) (byte_at x (p + 2)) (elem_at x (p + 3))
+    else (if tag == tags.SIZED_STRING then types.SizedString (byte_at x (p + 1)) (byte_at x (p + 2))
+    else (if tag == tags.SIZED_WSTRING
+    then types.SizedWString (byte_at x (p + 1)) (byte_at x (p + 2))
     else types.Plain tag))))
 
 unfoldable pub type_at : List ℕ → ℕ → XType
@@ -56,7 +60,8 @@ type_len (types.SizedString size len) = 3
 type_len (types.SizedWString size len) = 3
 
 abbrev pub param_at : List ℕ → ℕ → Param
-param_at x p = record { flags = record { bits = bit_and (byte_at x p) param_bits }; ty = type_at x (p + 1) }
+param_at x p = record
+    { flags = record { bits = bit_and (byte_at x p) param_bits }; ty = type_at x (p + 1) }
 
 -- of a result too
 abbrev pub param_end : List ℕ → ℕ → ℕ
@@ -64,7 +69,8 @@ param_end x p = p + 1 + type_len (type_at x (p + 1))
 
 -- ---- names
 
--- how long the text is that begins at a place and is ended by a byte 0, where that has at most 255 bytes
+-- how long the text is that begins at a place and is ended by a byte 0, where that has at most 255
+-- bytes
 abbrev pub text_len : List ℕ → ℕ → Option ℕ
 text_len x p = position (λ b. b == 0) (take 256 (drop p x))
 
@@ -101,7 +107,9 @@ method_end x p = param_end x (params_end x p)
 
 abbrev pub kind_by_tag : ℕ → ConstKind
 kind_by_tag tag =
-    if tag == 1 then kinds.I16 else (if tag == 2 then kinds.I32 else (if tag == 5 then kinds.U16 else kinds.U32))
+    if tag == tags.INT16 then kinds.I16
+    else (if tag == tags.INT32 then kinds.I32
+    else (if tag == tags.UINT16 then kinds.U16 else kinds.U32))
 
 abbrev pub kind_at : List ℕ → ℕ → ConstKind
 kind_at x p = kind_by_tag (tag_at x p)
@@ -128,7 +136,8 @@ unfoldable pub descriptor_at : List ℕ → ℕ → Body
 descriptor_at x p = record {
   parent = half_at x p;
   methods = values (method_at x) (method_end x) (p + 4) (half_at x (p + 2));
-  constants = values (constant_at x) (constant_end x) (methods_end x p + 2) (half_at x (methods_end x p));
+  constants = values (constant_at x) (constant_end x) (methods_end x p + 2)
+      (half_at x (methods_end x p));
   flags = record { bits = bit_and (byte_at x (constants_end x p)) iface_bits };
 }
 

@@ -1,5 +1,6 @@
--- Parts that stand one after the other, where each part's end is known from its bytes: the first fault among n of them, where
--- they end, and their values. A state is a place, or a place with a number of items.
+-- Parts that stand one after the other, where each part's end is known from its bytes: the first
+-- fault among n of them, where they end, and their values. A state is a place, or a place with a
+-- number of items.
 use Rattle.std.specs.Prelude.{ℕ, zero, suc, List, [], ◌∷◌, Option, Some, None, Bool, if◌then◌else◌}
 use Rattle.typelib_faults.specs.declared.faults.BadTypelib.{BadTypelib}
 

@@ -1,5 +1,5 @@
-/// Where in a file an item is to be read, and how many items were read before it. Items are the directory's entries,
-/// methods, parameters and constants.
+/// Where in a file an item is to be read, and how many items were read before it. Items are the
+/// directory's entries, methods, parameters and constants.
 #[derive(Clone, Copy, PartialEq, Eq, Debug)]
 pub struct Cursor {
     /// The place in the file.

@@ -1,5 +1,8 @@
+use thiserror::Error;
+
 /// Why bytes are no typelib: the first fault in the order in which a typelib is read.
-#[derive(Clone, Copy, PartialEq, Eq, Debug)]
+#[derive(Clone, Copy, PartialEq, Eq, Debug, Error)]
+#[error("fault {code} at {at}")]
 pub struct BadTypelib {
     /// The kind of the fault, from 1 to 15.
     pub code: u8,

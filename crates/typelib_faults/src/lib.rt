@@ -1,5 +1,5 @@
-//! What the bytes of a typelib say, and their first fault, in the order in which a typelib is read; and the laws between
-//! the two: bytes denote a library exactly where they have no fault.
+//! What the bytes of a typelib say, and their first fault, in the order in which a typelib is
+//! read; and the laws between the two: bytes denote a library exactly where they have no fault.
 #![tactic(auto)]
 
 mod cursor;

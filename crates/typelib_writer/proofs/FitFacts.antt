@@ -37,7 +37,8 @@ method_fits count m is = record {
   params = λ k d h. type_fits count m.params (get_or m.params k d).ty (is.params k d h).ty;
 }
 
-body_fits : (ifaces : List Iface) (o : Option Body) → slots_in o ≤ 250 → IfSome o (IsBody ifaces) → IfSome o BodyFits
+body_fits : (ifaces : List Iface) (o : Option Body) → slots_in o ≤ 250 → IfSome o (IsBody ifaces)
+    → IfSome o BodyFits
 body_fits ifaces None few is = tt
 body_fits ifaces (Some b) few is = record {
   few_methods = omega arith;

@@ -10,8 +10,6 @@ mod methods;
 mod names;
 mod numbers;
 mod param_bytes;
-#[cfg(test)]
-mod tests;
 
 pub use errors::WriteError;
 pub use file::write;

@@ -57,7 +57,8 @@ idl_fault_once bytes a b p q =
     same_said bytes a b s.0 t.0 s.2 t.2 (blamed_once bytes s.0 t.0 s.1 t.1)
 
 idl_writes_once : (bytes text other : List ℕ) → WritesTypelib bytes text → WritesTypelib bytes other → text ≡ other
-idl_writes_once bytes text other w v = w.2 ∙ ap (λ i. emit (library_of i)) (thin_once bytes w.0 v.0 w.1 v.1) ∙ sym v.2
+idl_writes_once bytes text other w v =
+    w.2.emitted ∙ ap (λ i. emit (library_of i)) (thin_once bytes w.0 v.0 w.1 v.1) ∙ sym v.2.emitted
 
 idl_refuses_once : (name bytes : List ℕ) (f o : Failure) → RefusesIdl name bytes f → RefusesIdl name bytes o → f ≡ o
 idl_refuses_once name bytes f o r s = r.2 ∙ ap (Refused name) (idl_fault_once bytes r.0 s.0 r.1 s.1) ∙ sym s.2

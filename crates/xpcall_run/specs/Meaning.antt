@@ -4,14 +4,13 @@ use Rattle.xp_base.specs.Files.{Files, file_in}
 use Rattle.call_model.specs.declared.places.Conv.TheVariants.{SysV64}
 use Rattle.lib_model.specs.declared.contents.Library.{Library}
 use Rattle.lib_model.specs.Denotes.{Denotes}
-use Rattle.lib_model.specs.Emit.{emit}
 use Rattle.lib_model.specs.Table.{table_of}
 use Rattle.lib_model.specs.Thin.{IsThin}
 use Rattle.thin_idl.specs.declared.thin_error.ThinError.TheVariants as idl
 use Rattle.thin_idl.specs.declared.thin_interface.ThinInterface.{ThinInterface}
 use Rattle.thin_idl.specs.Faults.{Blames}
 use Rattle.thin_idl.specs.ThinFile.{IsThinFile}
-use Rattle.thin_idl.specs.ThinLibrary.{library_of}
+use Rattle.thin_idl.specs.ThinLibrary.{IsTypelibOf}
 use Rattle.call_scripts.specs.declared.error.ScriptError.TheVariants as script
 use Rattle.call_scripts.specs.declared.script.Script as spelled
 use Rattle.script_run.specs.ThinScripts.{BlamesThin, IsThinScript}
@@ -64,9 +63,9 @@ input_of words told = command_input (command_of words) told
 
 -- ---- what is written
 
--- the text is the typelib of what the bytes of a thin IDL file say
+-- the text is the typelib of what the bytes of a thin IDL file say, and denotes its library
 abbrev pub WritesTypelib : (bytes text : List ℕ) → Type 0
-WritesTypelib bytes text = (i : ThinInterface) × IsThinFile bytes i × (text ≡ emit (library_of i))
+WritesTypelib bytes text = (i : ThinInterface) × IsThinFile bytes i × IsTypelibOf i text
 
 -- the bytes denote this library, and it is thin
 pub record DenotesThin (bytes : List ℕ) (lib : Library) : Type 0 where

@@ -14,11 +14,10 @@ use crate::failures::{Failure, FileFault};
 use crate::fetches::{LONGEST_TEXT, fetch};
 use call_scripts::{Script, ScriptError};
 use descriptor_reader::Typelib;
-use lib_model::LONGEST_TYPELIB;
 use script_run::{read_thin, run_thin};
 use std::alloc::Global;
 use sysv_x86_64::Walk;
-use xp_base::{Bytes, Sink, Source};
+use xp_base::{Bytes, MAX_TYPELIB, Sink, Source};
 
 /// The bytes of a typelib and of a script.
 #[derive(Drop)]
@@ -65,7 +64,7 @@ fn fetch_both<S: Source>(
     ensures err { IfErr result (CommandStops (S.files files.old) (Call typelib.now script.now) (Rose (S.faults files.old) (S.faults files.new))) }
     ensures same_files { S.files files.new ≡ S.files files.old }
 {
-    let typelib = fetch(alloc, typelib, LONGEST_TYPELIB, files)?;
+    let typelib = fetch(alloc, typelib, MAX_TYPELIB, files)?;
     let script = fetch(alloc, script, LONGEST_TEXT, files)?;
     Ok(CallFiles { typelib, script })
 }

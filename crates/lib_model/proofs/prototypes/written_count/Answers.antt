@@ -6,7 +6,8 @@ use Rattle.lib_model.proofs.prototypes.written_count.Goals as goal
 
 pub returns-then-gives_value-clause-count : goal.returns-then-gives_value-clause-count
 returns-then-gives_value-clause-count c =
-    let gives : gives_value c.in-Some.last.now ≡ true = sym c.gives_value.ensures ∙ c.if-gives_value.true
+    let gives : gives_value c.in-Some.last.now ≡ true =
+    sym c.gives_value.ensures ∙ c.if-gives_value.true
     in omega (
       arith,
       written_last c.args.params.now c.in-Some.rest.now c.in-Some.last.now c.in-Some.ensures.cases.0
@@ -15,7 +16,8 @@ returns-then-gives_value-clause-count c =
 
 pub returns-else-gives_value-clause-count : goal.returns-else-gives_value-clause-count
 returns-else-gives_value-clause-count c =
-    let gives : gives_value c.in-Some.last.now ≡ false = sym c.gives_value.ensures ∙ c.if-gives_value.false
+    let gives : gives_value c.in-Some.last.now ≡ false =
+    sym c.gives_value.ensures ∙ c.if-gives_value.false
     in omega (
       arith,
       c.in-Some.ensures.cases.1,

@@ -33,5 +33,5 @@ loop-number-preserved c =
     let x = c.args.file.now.bytes.now in
     record {
       reached = step_more (param_end x) c.args.params.from.place c.loop-number.place c.param_behind-place.result c.loop-number.number c.loop-number.invariant.reached c.param_behind-place.ensures;
-      tags = subst (λ (i : ℕ). HasTags (set c.loop-number.tags i (Some c.known_tag.result)) (values (param_at x) (param_end x) c.args.params.from.place (c.loop-number.number + 1))) (sym c.from.ensures) (one_more x c.args.params.from.place c.loop-number.number c.loop-number.place c.known_tag.result c.loop-number.tags (omega arith) c.loop-number.invariant.reached c.known_tag.ensures c.loop-number.invariant.tags);
+      tags = subst (λ (i : ℕ). HasTags (set c.loop-number.found i (Some c.known_tag.result)) (values (param_at x) (param_end x) c.args.params.from.place (c.loop-number.number + 1))) (sym c.from.ensures) (one_more x c.args.params.from.place c.loop-number.number c.loop-number.place c.known_tag.result c.loop-number.found (omega arith) c.loop-number.invariant.reached c.known_tag.ensures c.loop-number.invariant.tags);
     }

@@ -8,5 +8,5 @@ use Rattle.typelib_check.proofs.arguments.tags_of_params.Given as goal
 abbrev pub invariant-loop-number : goal.invariant-loop-number
 invariant-loop-number l = record {
   reached : l.place ≡ reach (param_end l.file.bytes.now) l.fn.params.from.place l.number;
-  tags : HasTags l.tags (values (param_at l.file.bytes.now) (param_end l.file.bytes.now) l.fn.params.from.place l.number);
+  tags : HasTags l.found (values (param_at l.file.bytes.now) (param_end l.file.bytes.now) l.fn.params.from.place l.number);
 }

@@ -5,4 +5,5 @@ use Rattle.typelib_writer.proofs.param_bytes.put_params.Given as goal
 
 -- what is written and the parameters that are left are all of them
 abbrev pub invariant-loop-param : goal.invariant-loop-param
-invariant-loop-param l = l.out ++ flat_map param_text (drop l.param-index l.params) ≡ l.initial.out ++ flat_map param_text l.params
+invariant-loop-param l = l.out ++ flat_map param_text (drop l.param-index l.params) ≡ l.initial.out
+    ++ flat_map param_text l.params

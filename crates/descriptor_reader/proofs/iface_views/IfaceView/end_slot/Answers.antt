@@ -1,13 +1,14 @@
 use Rattle.std.proofs.Common.{ap, arith, ◌∙◌}
-use Rattle.descriptor_reader.specs.Views.{end_slot_of}
-use Rattle.descriptor_reader.proofs.ViewLaws.{slots_known}
+use Rattle.call_model.specs.Tables.{end_slot}
+use Rattle.lib_model.specs.Table.{table_of}
+use Rattle.descriptor_reader.specs.Views.{IfaceOf}
+use Rattle.descriptor_reader.proofs.ViewLaws.{end_slot_is, slots_known}
 use Rattle.descriptor_reader.proofs.iface_views.IfaceView.end_slot.Goals as goal
 
 pub returns-clause-slot : goal.returns-clause-slot
 returns-clause-slot c =
-    let f = c.self.inside.checked.file in
-    let k = slots_known f.bytes.now c.self.inside.number c.self.inside.checked.is_fine c.self.invariant.0 (omega (arith, f.count_is, c.self.invariant.1)) in
-    c.end_of_slots.ensures ∙ (k.0 ∙ ap end_slot_of c.self.view_is)
+    c.end_of_slots.ensures
+    ∙ (end_slot_is c.self.inside.checked.file.bytes.now c.self.inside.number ∙ ap (λ (v : IfaceOf). end_slot (table_of v.library) v.number) c.self.view_is)
 
 pub returns-clause-few : goal.returns-clause-few
 returns-clause-few c =

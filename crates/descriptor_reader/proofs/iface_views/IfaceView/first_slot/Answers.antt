@@ -1,8 +1,8 @@
-use Rattle.std.proofs.Common.{ap, arith, sum_by, ◌∙◌, ◌≡◌, ℕ}
-use Rattle.lib_model.specs.Valid.{chain_of, own_slots, parent_of}
-use Rattle.typelib_faults.specs.Places.{library_of}
-use Rattle.descriptor_reader.specs.Views.{first_slot_of}
-use Rattle.descriptor_reader.proofs.ViewLaws.{directory_known, parent_is, slots_any}
+use Rattle.std.proofs.Common.{ap, arith, ◌∙◌}
+use Rattle.call_model.specs.Tables.{first_slot}
+use Rattle.lib_model.specs.Table.{table_of}
+use Rattle.descriptor_reader.specs.Views.{IfaceOf}
+use Rattle.descriptor_reader.proofs.ViewLaws.{directory_known, first_slot_is, slots_any}
 use Rattle.descriptor_reader.proofs.iface_views.IfaceView.first_slot.Goals as goal
 
 pub links-parent-requires-clause-fine : goal.links-parent-requires-clause-fine
@@ -10,12 +10,8 @@ links-parent-requires-clause-fine c = directory_known c.self.inside.checked.file
 
 pub returns-clause-slot : goal.returns-clause-slot
 returns-clause-slot c =
-    let f = c.self.inside.checked.file in
-    let x = f.bytes.now in
-    let k = slots_any x c.links-parent.result.0 c.self.inside.checked.is_fine (omega (arith, f.count_is, c.links-parent.ensures.within)) in
-    let parent : c.links-parent.result.0 ≡ parent_of (library_of x).ifaces c.self.inside.number = c.links-parent.ensures.parent ∙ parent_is x c.self.inside.number in
     c.end_of_slots.ensures
-    ∙ (k.0 ∙ (ap (λ (n : ℕ). sum_by (own_slots (library_of x).ifaces) (chain_of (library_of x).ifaces n)) parent ∙ ap first_slot_of c.self.view_is))
+    ∙ (first_slot_is c.self.inside.checked.file.bytes.now c.self.inside.number c.links-parent.result.0 c.links-parent.ensures.parent ∙ ap (λ (v : IfaceOf). first_slot (table_of v.library) v.number) c.self.view_is)
 
 pub returns-clause-few : goal.returns-clause-few
 returns-clause-few c =

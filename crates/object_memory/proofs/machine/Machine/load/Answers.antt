@@ -11,6 +11,6 @@ returns-clause-cell c =
     let m = c.args.self.now in let at = c.args.at in let n = c.bytes.ensures in
     loads-cell m at c.args.width (Some c.number_of_bytes.result)
     (λ inside.
-    ap Some c.number_of_bytes.ensures
+    ap Some c.number_of_bytes.ensures.value
     ∙ ap (option_map number_of) (c.in_ok-bytes.ensures.in_cells (subst (λ k. InCells m at k) (sym n) inside))
     ∙ ap (λ k. Some (number_of (cell_bytes m at k))) n)

@@ -1,0 +1,11 @@
+pub mod Among
+pub mod Membership
+pub mod Sorted
+pub mod CountedLaws
+pub mod Methods
+pub mod Members
+pub mod Good
+pub mod AcceptedScope
+pub mod Identified
+pub mod Named
+pub mod WholeScope

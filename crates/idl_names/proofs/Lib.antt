@@ -1,0 +1,5 @@
+pub mod Digits
+pub mod Seen
+pub mod Lists
+pub mod Learned
+pub mod Numbering

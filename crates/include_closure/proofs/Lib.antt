@@ -1,0 +1,10 @@
+pub mod BegunLaws
+pub mod FetchLaws
+pub mod SeenLaws
+pub mod GrowLaws
+pub mod SomeLaws
+pub mod OneLaws
+pub mod Rests
+pub mod StepLaws
+pub mod CountLaws
+pub mod ClosureLaws

@@ -1,0 +1,154 @@
+ghost use Rattle.std.specs.Prelude.{IsTrue};
+ghost use Rattle.object_memory.specs.Frames.{IsPlace};
+
+use call_model::{CType, Conv, Loc};
+use invoke_by_index::fill_frame;
+use object_memory::{Frame, Machine, Width};
+use std::test::Fail;
+use sysv_x86_64::Walk;
+
+/// Arguments of a call under sysv64, and the frame that it begins with.
+#[derive(Drop)]
+struct Filled<'a> {
+    name: &'a str,
+    types: &'a [CType],
+    patterns: &'a [u64],
+    gprs: [u64; 8],
+    fprs: [u64; 8],
+    stack: &'a [u8],
+}
+
+const LONGS: [CType; 8] = [
+    CType::Ptr,
+    CType::I32,
+    CType::I32,
+    CType::I32,
+    CType::I32,
+    CType::I32,
+    CType::I32,
+    CType::I32,
+];
+
+const NINE_DOUBLES: [CType; 11] = [
+    CType::Ptr,
+    CType::F64,
+    CType::F64,
+    CType::I32,
+    CType::F64,
+    CType::F64,
+    CType::F64,
+    CType::F64,
+    CType::F64,
+    CType::F64,
+    CType::F64,
+];
+
+/// Whether the registers hold these numbers.
+fn has_registers(frame: &Frame, gprs: &[u64; 8], fprs: &[u64; 8]) -> bool {
+    for i in 0..8 {
+        if frame.gpr(i) != gprs[i as usize] || frame.fpr(i) != fprs[i as usize] {
+            return false;
+        }
+    }
+    true
+}
+
+// Nothing of an earlier call is left.
+#[test]
+fn a_frame_has_registers_and_stack_of_one_call(rt: HostRuntime) -> Result<(), Fail> {
+    let calls = [
+        Filled {
+            name: "seven longs",
+            types: &LONGS,
+            patterns: &[0x107d0, 1, 2, 3, 4, 5, 6, 7],
+            gprs: [0x107d0, 1, 2, 3, 4, 5, 0, 0],
+            fprs: [0; 8],
+            stack: &[6, 0, 0, 0, 0, 0, 0, 0, 7, 0, 0, 0, 0, 0, 0, 0],
+        },
+        Filled {
+            name: "nine doubles and a long",
+            types: &NINE_DOUBLES,
+            patterns: &[0x107d0, 1, 2, 7, 3, 4, 5, 6, 7, 8, 9],
+            gprs: [0x107d0, 7, 0, 0, 0, 0, 0, 0],
+            fprs: [1, 2, 3, 4, 5, 6, 7, 8],
+            stack: &[9, 0, 0, 0, 0, 0, 0, 0],
+        },
+        Filled {
+            name: "the object alone",
+            types: &[CType::Ptr],
+            patterns: &[0x107d0],
+            gprs: [0x107d0, 0, 0, 0, 0, 0, 0, 0],
+            fprs: [0; 8],
+            stack: &[],
+        },
+    ];
+    let mut machine = Machine::new(rt.alloc(), Conv::SysV64)?;
+    let frame = machine.frame_mut();
+    for call in &calls {
+        let paired = call.types.len() <= 258 && call.types.len() == call.patterns.len();
+        assert!(rt; paired, "{}", call.name);
+        fill_frame::<Walk>(frame, call.types, call.patterns);
+        assert!(rt;
+            has_registers(frame, &call.gprs, &call.fprs),
+            "{}",
+            call.name
+        );
+        assert_eq!(rt; frame.stack(), call.stack, "{}", call.name);
+        assert_eq!(rt;
+            frame.stack_len() as usize,
+            call.stack.len(),
+            "{}",
+            call.name
+        );
+    }
+    Ok(())
+}
+
+/// Whether a location is a register, or so many bytes of the stack.
+fn has_place(frame: &Frame, at: Loc, n: u32) -> bool
+    ensures { IsTrue result → IsPlace frame.now at n }
+{
+    match at {
+        Loc::Gpr(r) => r < 8,
+        Loc::Fpr(r) => r < 8,
+        Loc::Stack(at) => {
+            if n > 8 || at > 64 {
+                return false;
+            }
+            at + n <= frame.stack_len()
+        }
+    }
+}
+
+// What stands above the own bytes does not count.
+#[test]
+fn the_own_bytes_of_a_location_are_its_low_ones(rt: HostRuntime) -> Result<(), Fail> {
+    let owns = [
+        ("a short in a register", Loc::Gpr(7), 2, 0x1122),
+        ("a whole register", Loc::Gpr(7), 8, 0xffff_0000_ffff_1122),
+        ("a float in its register", Loc::Fpr(0), 4, 0x8765_4321),
+        ("a byte of the stack", Loc::Stack(3), 1, 0xef),
+        ("two bytes of the stack", Loc::Stack(3), 2, 0xcdef),
+        ("four bytes of the stack", Loc::Stack(2), 4, 0x00cd_ef00),
+        (
+            "eight bytes of the stack",
+            Loc::Stack(8),
+            8,
+            0x0009_0807_0000_0000,
+        ),
+        ("no byte", Loc::Stack(16), 0, 0),
+    ];
+    let mut machine = Machine::new(rt.alloc(), Conv::SysV64)?;
+    let frame = machine.frame_mut();
+    frame.clear(16);
+    frame.put(Loc::Gpr(7), 8, 0xffff_0000_ffff_1122);
+    frame.set_fpr(0, 0xffff_ffff_8765_4321);
+    frame.set_gpr(6, 6);
+    frame.set_stack(3, Width::W2, 0x00ab_cdef);
+    frame.set_stack_bytes(12, &[7, 8, 9]);
+    for (name, at, n, value) in owns {
+        assert!(rt; has_place(frame, at, n), "{name}");
+        assert_eq!(rt; frame.own(at, n), value, "{name}");
+    }
+    Ok(())
+}

@@ -1,0 +1,212 @@
+//! Each form of a line with the tree that it reads as and its echo, each near miss as a fault, and
+//! the number of each line.
+
+use call_scripts::{Script, ScriptError, read_front, read_script};
+use std::alloc::{AllocError, Global};
+use std::process::Abort;
+use std::test::Fail;
+use xp_base::MAX_TEXT;
+
+/// A line, the tree of what it does, and its echo.
+const FORMS: [(&str, &str, &str); 14] = [
+    (
+        "data b 00fF",
+        "Block { name: Bytes { bytes: [98] }, fill: Given(Bytes { bytes: [0, 255] }) }",
+        "data b 00fF",
+    ),
+    (
+        "data b zero 00300",
+        "Block { name: Bytes { bytes: [98] }, fill: Zeros(300) }",
+        "data b zero 00300",
+    ),
+    (
+        "data i iid 01020304-0506-0708-090A-0b0c0d0e0f10",
+        "Block { name: Bytes { bytes: [105] }, fill: Iid([1, 2, 3, 4, 5, 6, 7, 8, 9, 10, 11, 12, 13, 14, 15, 16]) }",
+        "data i iid 01020304-0506-0708-090A-0b0c0d0e0f10",
+    ),
+    (
+        " object\to  nsIA\t",
+        "Object { name: Bytes { bytes: [111] }, iface: Bytes { bytes: [110, 115, 73, 65] } }",
+        "object o nsIA",
+    ),
+    (
+        "reply o a.b",
+        "Reply { name: Bytes { bytes: [111] }, member: MemberRef { iface: Bytes { bytes: [97] }, kind: Plain, name: Bytes { bytes: [98] } }, items: List { values: [] } }",
+        "reply o a.b",
+    ),
+    (
+        "reply o a.get:b result=8000FFFF a0=-1 a01=@b+$a2 a2=*a3 [a999+00000007]=4142",
+        "Reply { name: Bytes { bytes: [111] }, member: MemberRef { iface: Bytes { bytes: [97] }, kind: Get, name: Bytes { bytes: [98] } }, items: List { values: [Result(2147549183), Set { at: 0, first: Number(-1), second: None }, Set { at: 1, first: Address(Bytes { bytes: [98] }), second: Some(Arg(2)) }, Set { at: 2, first: InCell(3), second: None }, Fill { at: 999, offset: 7, bytes: Bytes { bytes: [65, 66] } }] } }",
+        "reply o a.get:b result=8000FFFF a0=-1 a01=@b+$a2 a2=*a3 [a999+00000007]=4142",
+    ),
+    (
+        "call o a.set:b 7 -18446744073709551616 0xff null @b $v _ ->r null->x -5->_",
+        "Call { target: Block(Bytes { bytes: [111] }), member: MemberRef { iface: Bytes { bytes: [97] }, kind: Set, name: Bytes { bytes: [98] } }, args: List { values: [Value(Number(7)), Value(Number(-18446744073709551616)), Value(Number(255)), Value(Number(0)), Value(Address(Bytes { bytes: [98] })), Value(Variable(Bytes { bytes: [118] })), Absent, Cell(Bytes { bytes: [114] }), ValueCell(Number(0), Bytes { bytes: [120] }), ValueCell(Number(-5), Bytes { bytes: [95] })] } }",
+        "call o a.set:b 7 -18446744073709551616 0xff null @b $v _ ->r null->x -5->_",
+    ),
+    (
+        "call $v a.b",
+        "Call { target: Variable(Bytes { bytes: [118] }), member: MemberRef { iface: Bytes { bytes: [97] }, kind: Plain, name: Bytes { bytes: [98] } }, args: List { values: [] } }",
+        "call $v a.b",
+    ),
+    (
+        "enter o a.b rdi=1 x0=ffffffffffffffff stack=0a",
+        "Enter { name: Bytes { bytes: [111] }, member: MemberRef { iface: Bytes { bytes: [97] }, kind: Plain, name: Bytes { bytes: [98] } }, items: List { values: [Register { name: Bytes { bytes: [114, 100, 105] }, value: 1 }, Register { name: Bytes { bytes: [120, 48] }, value: 18446744073709551615 }, Stack(Bytes { bytes: [10] })] } }",
+        "enter o a.b rdi=1 x0=ffffffffffffffff stack=0a",
+    ),
+    ("show b", "ShowBlock(Bytes { bytes: [98] })", "show b"),
+    ("show $v", "ShowValue(Bytes { bytes: [118] })", "show $v"),
+    (
+        "poke b 12 00ff",
+        "Poke { name: Bytes { bytes: [98] }, offset: 12, bytes: Bytes { bytes: [0, 255] } }",
+        "poke b 12 00ff",
+    ),
+    (
+        "context @c",
+        "Context(Address(Bytes { bytes: [99] }))",
+        "context @c",
+    ),
+    ("context 0", "Context(Number(0))", "context 0"),
+];
+
+#[test]
+fn forms_are_read(rt: HostRuntime) -> Result<(), Fail> {
+    let alloc = rt.alloc();
+    for (text, tree, echo) in FORMS {
+        assert!(rt; text.len() <= MAX_TEXT);
+        let script = read_script(alloc, text.as_bytes())?;
+        assert_eq!(rt; script.lines.len(), 1, "at {text}");
+        let line = script.lines.get(0).expect(&rt, "a line");
+        let act = format!(in alloc; "{:?}", line.act)?;
+        assert_eq!(rt; act.as_str(), tree, "at {text}");
+        assert_eq!(rt; line.echo.as_slice(), echo.as_bytes(), "at {text}");
+    }
+    Ok(())
+}
+
+/// The line that is blamed for a text that is no script, or 0.
+fn fault_line(rt: &impl Abort, alloc: Global, text: &[u8]) -> u32 {
+    assert!(rt; text.len() <= MAX_TEXT);
+    match read_script(alloc, text) {
+        Err(ScriptError::Fault { line }) => line,
+        _ => 0,
+    }
+}
+
+/// Lines that are close to one that is read.
+const NEAR_MISSES: [&str; 38] = [
+    "data b 0",
+    "data b zero",
+    "data b iid",
+    "data b",
+    "data 1b 00",
+    "data b 0g",
+    "data b zero -1",
+    "data b iid 0102030405060708090a0b0c0d0e0f10",
+    "object o",
+    "object o a b",
+    "call o",
+    "call o a",
+    "call o a.b ->x->y",
+    "call o a.b 5->",
+    "call o a.b _->x",
+    "call o a.b -->x",
+    "call o a.b -0x1",
+    "call o a.b 123456789012345678901",
+    "call o a.get:",
+    "call o a.b 1b",
+    "reply o a.b a1=$b",
+    "reply o a.b a1=1+2+3",
+    "reply o a.b [a1+1]=0",
+    "reply o a.b a1000=1",
+    "reply o a.b a0=null",
+    "reply o a.b result=123456789",
+    "enter o a.b stack=0",
+    "enter o a.b rdi=",
+    "enter o a.b RDI=1",
+    "enter $v a.b",
+    "show",
+    "show b c",
+    "context",
+    "context 1 2",
+    "poke b 0",
+    "poke b 123456789 00",
+    "jump",
+    "Show b",
+];
+
+#[test]
+fn near_misses_are_faults(rt: HostRuntime) {
+    for text in NEAR_MISSES {
+        assert_eq!(rt;
+            fault_line(&rt, rt.alloc(), text.as_bytes()),
+            1,
+            "at {text}"
+        );
+    }
+}
+
+#[test]
+fn names_have_at_most_255_bytes(rt: HostRuntime) {
+    let mut line = [b'n'; 261];
+    line[..5].copy_from_slice(b"show ");
+    for (text, fault) in [(&line[..260], 0), (&line[..261], 1)] {
+        let len = text.len();
+        assert_eq!(rt; fault_line(&rt, rt.alloc(), text), fault, "at {len} bytes");
+    }
+}
+
+/// Texts, and the line of each that is the first with no reading.
+const FAULTY: [(&[u8], u32); 6] = [
+    (b"show b\njump\njump", 2),
+    (b"# note\n\njump\n", 3),
+    (b"show b\r", 1),
+    (b"show b\r\r\n", 1),
+    (b"\n# \x7f", 2),
+    (b"# \xc3\xa9", 1),
+];
+
+#[test]
+fn the_first_fault_is_blamed(rt: HostRuntime) {
+    for (text, line) in FAULTY {
+        assert_eq!(rt; fault_line(&rt, rt.alloc(), text), line, "at {text:?}");
+    }
+}
+
+/// The numbers of the lines that do something.
+fn numbers(alloc: Global, script: &Script) -> Result<Vec<u32>, AllocError> {
+    let mut numbers = Vec::new(alloc);
+    for line in script.lines.as_slice() {
+        numbers.push(line.number)?;
+    }
+    Ok(numbers)
+}
+
+#[test]
+fn all_lines_are_counted(rt: HostRuntime) -> Result<(), Fail> {
+    let alloc = rt.alloc();
+    for (text, want) in [
+        ("# note\n\n \t\nshow b\r\n#\nshow c", [4, 6].as_slice()),
+        ("", [].as_slice()),
+    ] {
+        assert!(rt; text.len() <= MAX_TEXT);
+        let script = read_script(alloc, text.as_bytes())?;
+        assert_eq!(rt; numbers(alloc, &script)?.as_slice(), want, "at {text}");
+    }
+    Ok(())
+}
+
+#[test]
+fn a_front_ends_before_a_fault(rt: HostRuntime) -> Result<(), Fail> {
+    let alloc = rt.alloc();
+    for (text, lines, fault) in [
+        ("object o nsIA\njump\nobject p nsIA", 1, Some(2)),
+        ("object o nsIA\n\nobject p nsIA", 2, None),
+    ] {
+        assert!(rt; text.len() <= MAX_TEXT);
+        let front = read_front(alloc, text.as_bytes())?;
+        assert_eq!(rt; front.script.lines.len(), lines, "at {text}");
+        assert_eq!(rt; front.fault, fault, "at {text}");
+    }
+    Ok(())
+}

@@ -1,0 +1,194 @@
+//! The table that is read off a library.
+
+use call_model::{CType, MemberKind, Note, Pass, ProtoArg, Status, TableIface, TableSlot};
+use lib_model::{
+    Body, Iface, IfaceFlags, Library, Method, MethodFlags, Param, ParamFlags, XType, table_of, tags,
+};
+use std::alloc::Global;
+use std::process::Abort;
+use std::test::Fail;
+use xp_base::{Bytes, List, Memory};
+
+/// A method, and the status and prototype that it has in the table.
+#[derive(Clone, Copy)]
+struct Row {
+    name: &'static [u8],
+    flags: u8,
+    params: &'static [Param],
+    status: Status,
+    proto: &'static [ProtoArg],
+}
+
+/// An interface with its methods.
+#[derive(Clone, Copy)]
+struct Rows {
+    name: &'static [u8],
+    iid: [u8; 16],
+    parent: u16,
+    methods: &'static [Row],
+}
+
+const IN_IDENTIFIER: Param = Param {
+    flags: ParamFlags::IN,
+    ty: XType::Plain(tags::NSID),
+};
+
+const OUT_INTERFACE: Param = Param {
+    flags: ParamFlags { bits: 0x60 },
+    ty: XType::IidIs(0),
+};
+
+const IN_LONG: Param = Param {
+    flags: ParamFlags::IN,
+    ty: XType::Plain(tags::INT32),
+};
+
+const RETURNED_LONG: Param = Param {
+    flags: ParamFlags { bits: 0x60 },
+    ty: XType::Plain(tags::INT32),
+};
+
+/// The argument that an `in long` becomes.
+const IN_I32: ProtoArg = ProtoArg {
+    pass: Pass::ByValue,
+    ty: CType::I32,
+    optional: false,
+    note: Note::Plain,
+};
+
+/// nsISupports, and an interface that adds two numbers, in the order of their identifiers.
+const INTERFACES: [Rows; 2] = [
+    Rows {
+        name: b"nsISupports",
+        iid: [0, 0, 0, 0, 0, 0, 0, 0, 0xc0, 0, 0, 0, 0, 0, 0, 0x46],
+        parent: 0,
+        methods: &[
+            Row {
+                name: b"QueryInterface",
+                flags: 0,
+                params: &[IN_IDENTIFIER, OUT_INTERFACE],
+                status: Status::Callable,
+                proto: &[
+                    ProtoArg {
+                        pass: Pass::ByRef,
+                        ty: CType::Ptr,
+                        optional: false,
+                        note: Note::Plain,
+                    },
+                    ProtoArg {
+                        pass: Pass::ByCell { inward: false },
+                        ty: CType::Ptr,
+                        optional: false,
+                        note: Note::IidAt(0),
+                    },
+                ],
+            },
+            Row {
+                name: b"AddRef",
+                flags: 0x28,
+                params: &[],
+                status: Status::Hidden,
+                proto: &[],
+            },
+            Row {
+                name: b"Release",
+                flags: 0x28,
+                params: &[],
+                status: Status::Hidden,
+                proto: &[],
+            },
+        ],
+    },
+    Rows {
+        name: b"nsIT",
+        iid: [1, 2, 3, 4, 5, 6, 7, 8, 9, 10, 11, 12, 13, 14, 15, 16],
+        parent: 1,
+        methods: &[Row {
+            name: b"add",
+            flags: 0,
+            params: &[IN_LONG, IN_LONG, RETURNED_LONG],
+            status: Status::Callable,
+            proto: &[
+                IN_I32,
+                IN_I32,
+                ProtoArg {
+                    pass: Pass::ByCell { inward: false },
+                    ty: CType::I32,
+                    optional: false,
+                    note: Note::Plain,
+                },
+            ],
+        }],
+    },
+];
+
+fn params_of(alloc: Global, row: &Row) -> Result<List<Param>, Memory> {
+    let mut params = List::new(alloc);
+    for param in row.params {
+        params.push(*param)?;
+    }
+    Ok(params)
+}
+
+fn methods_of(alloc: Global, rows: &[Row]) -> Result<List<Method>, Memory> {
+    let mut methods = List::new(alloc);
+    for row in rows {
+        methods.push(Method {
+            name: Bytes::copy(alloc, row.name)?,
+            flags: MethodFlags { bits: row.flags },
+            params: params_of(alloc, row)?,
+        })?;
+    }
+    Ok(methods)
+}
+
+fn library_of(alloc: Global, interfaces: &[Rows]) -> Result<Library, Memory> {
+    let mut ifaces = List::new(alloc);
+    for rows in interfaces {
+        ifaces.push(Iface {
+            name: Bytes::copy(alloc, rows.name)?,
+            namespace: None,
+            iid: rows.iid,
+            body: Some(Body {
+                parent: rows.parent,
+                methods: methods_of(alloc, rows.methods)?,
+                constants: List::new(alloc),
+                flags: IfaceFlags::SCRIPTABLE,
+            }),
+        })?;
+    }
+    Ok(Library { ifaces })
+}
+
+/// A slot is that of its row.
+fn assert_slot(rt: &impl Abort, slot: &TableSlot, row: &Row) {
+    let name = row.name;
+    assert_eq!(rt; slot.name.as_slice(), name);
+    assert_eq!(rt; slot.kind, MemberKind::Plain, "of {name:?}");
+    assert_eq!(rt; slot.status, row.status, "of {name:?}");
+    assert_eq!(rt; slot.proto.as_slice(), row.proto, "of {name:?}");
+}
+
+/// An interface has its rows' name, identifier, parent and slots.
+fn assert_iface(rt: &impl Abort, iface: &TableIface, rows: &Rows) {
+    let name = rows.name;
+    assert_eq!(rt; iface.name.as_slice(), name);
+    assert_eq!(rt; iface.iid, rows.iid, "of {name:?}");
+    assert!(rt; iface.resolved, "{name:?}");
+    assert_eq!(rt; iface.parent, rows.parent, "of {name:?}");
+    assert_eq!(rt; iface.slots.len(), rows.methods.len(), "of {name:?}");
+    for (slot, row) in iface.slots.as_slice().iter().zip(rows.methods) {
+        assert_slot(rt, slot, row);
+    }
+}
+
+#[test]
+fn the_table_has_the_interfaces_and_their_own_slots(rt: HostRuntime) -> Result<(), Fail> {
+    let library = library_of(rt.alloc(), &INTERFACES)?;
+    let table = table_of(rt.alloc(), &library)?;
+    assert_eq!(rt; table.ifaces.len(), INTERFACES.len());
+    for (iface, rows) in table.ifaces.as_slice().iter().zip(&INTERFACES) {
+        assert_iface(&rt, iface, rows);
+    }
+    Ok(())
+}
