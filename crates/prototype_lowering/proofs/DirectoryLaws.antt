@@ -1,5 +1,5 @@
 -- The directory has each interface of the scope once.
-use Rattle.std.proofs.Common.{◌≡◌, ℕ, zero, suc, ◌+◌, ◌<◌, ◌≤◌, ◌==◌, Bool, true, false, cond, List, [], ◌∷◌, length, get_or, map, Option, Some, None, refl, sym, ap, subst, ◌∙◌, arith, nat_lt, nat_eq, ltb-true, ltb-false, not, true≢false, sum_by, slice_get, if◌then◌else◌}
+use Rattle.std.proofs.Common.{◌≡◌, ℕ, zero, suc, ◌+◌, ◌<◌, ◌≤◌, ◌==◌, Bool, true, false, cond, List, [], ◌∷◌, length, get_or, Option, Some, refl, sym, ap, subst, ◌∙◌, arith, nat_lt, nat_eq, ltb-true, ltb-false, not, sum_by, slice_get}
 use Rattle.std.specs.List.{AllByRecursion, cons_option, filter_map, position_or_len}
 use Rattle.std.specs.declared.cmp.Ordering.{Ordering}
 use Rattle.std.specs.declared.cmp.Ordering.TheVariants.{Less, Equal, Greater}
@@ -162,6 +162,7 @@ once_from k j (suc n) low high = go (nat_lt j k) refl (λ l h. once_from k (j + 
   where
     here : k ≡ j → 1 ≤ one k j + sum_from (one k) (j + 1) n
     here same = omega (arith, one_here k, ap (one k) same)
+
     go : (b : Bool) → nat_lt j k ≡ b → (j + 1 ≤ k → k < j + 1 + n → 1 ≤ sum_from (one k) (j + 1) n) → 1 ≤ one k j + sum_from (one k) (j + 1) n
     go true h rest = let below : j < k = ltb-true j k h in omega (arith, rest (omega arith) (omega arith))
     go false h rest = let past : k ≤ j = ltb-false j k h in here (omega arith)

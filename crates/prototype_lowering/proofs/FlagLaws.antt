@@ -1,5 +1,5 @@
 -- What the flags of a library say. Each law is a test of all 64 cases, which computes.
-use Rattle.std.proofs.Common.{◌≡◌, ℕ, ◌==◌, ◌<◌, nat_lt, ltb-true, arith, Bool, true, false, ◌&&◌, not, refl, sym, ◌∙◌}
+use Rattle.std.proofs.Common.{◌≡◌, ℕ, ◌==◌, ◌<◌, nat_lt, ltb-true, arith, Bool, true, false, ◌&&◌, not, refl, sym}
 use Rattle.std.specs.Int.RustNames.{bit_and}
 use Rattle.lib_model.specs.Table.{has}
 use Rattle.lib_model.specs.Valid.{AreKnownBits, method_bits, param_bits}

@@ -7,3 +7,5 @@ pub mod Validity
 pub mod LoweredLists
 pub mod Entries
 pub mod Numbered
+pub mod Rooms
+pub mod Sayable

@@ -44,6 +44,7 @@ filter_more {X} g xs i within = ap (λ n. filter_map g (take n xs)) (let e : i +
     joined : (o : Option X) (ys zs : List X) → cons_option o (ys ++ zs) ≡ cons_option o ys ++ zs
     joined None ys zs = refl
     joined (Some x) ys zs = refl
+
     go : (xs : List ℕ) (i : ℕ) → i < length xs → filter_map g (take (suc i) xs) ≡ filter_map g (take i xs) ++ cons_option (g (get_or xs i 0)) []
     go [] i h = absurd (omega (arith, h))
     go (y ∷ ys) zero h = refl
@@ -61,3 +62,11 @@ found_more f g xs i so_far now x y within before found is pushed =
 pub none_more : {X Y : Type 0} (f : X → Y) (g : ℕ → Option X) (xs : List ℕ) (i : ℕ) (so_far now : List Y) → i < length xs → so_far ≡ map f (filter_map g (take i xs)) → None ≡ g (get_or xs i 0) → now ≡ so_far → now ≡ map f (filter_map g (take (i + 1) xs))
 none_more f g xs i so_far now within before none same =
     same ∙ before ∙ sym (ap (map f) (filter_more g xs i within ∙ ap (λ o. filter_map g (take i xs) ++ cons_option o []) (sym none) ∙ append-nil (filter_map g (take i xs))))
+
+-- what was written over the front
+pub take_written : (w t : List ℕ) (n : ℕ) → n ≡ length w → take n (w ++ t) ≡ w
+take_written w t n is = ap (λ m. take m (w ++ t)) is ∙ go w
+  where
+    go : (w : List ℕ) → take (length w) (w ++ t) ≡ w
+    go [] = refl
+    go (x ∷ w) = ap (λ xs. x ∷ xs) (go w)

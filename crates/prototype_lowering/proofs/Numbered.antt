@@ -1,8 +1,7 @@
 -- The numbers of a directory, as they are written from its end on.
-use Rattle.std.proofs.Common.{◌≡◌, ℕ, zero, suc, ◌+◌, ◌<◌, ◌≤◌, Bool, true, false, not, cond, List, [], ◌∷◌, length, get_or, set, drop, ◌≢◌, length-drop, nat_eq, refl, sym, ap, ◌∙◌, subst, arith, get_or-set_other, get_or-set_same}
+use Rattle.std.proofs.Common.{◌≡◌, ℕ, suc, ◌+◌, ◌<◌, ◌≤◌, Bool, true, false, not, cond, List, ◌∷◌, length, get_or, set, drop, ◌≢◌, length-drop, nat_eq, refl, sym, ap, ◌∙◌, subst, arith, get_or-set_other, get_or-set_same}
 use Rattle.std.specs.List.{position_or_len}
 use Rattle.std.proofs.lemmas.List.{at_drop_more}
-use Rattle.prototype_lowering.specs.Directory.{number}
 
 -- the numbers of those that stand from a place on
 abbrev pub Filled : List ℕ → List ℕ → ℕ → Type 0

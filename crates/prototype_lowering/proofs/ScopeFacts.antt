@@ -119,11 +119,14 @@ member_ok count m ok = go m.body ok.inside
   where
     getter_ok : (hidden notxpcom context : Bool) (ty : Meant) → IsMeaning count ty → IsLowerableSlot count (getter m.name hidden notxpcom context ty)
     getter_ok hidden notxpcom context ty h = record { word = ok.word; each = given_each count (given notxpcom (Some ty)) notxpcom (Some ty) h; value = given_last [] notxpcom (Some ty) tt }
+
     setter_ok : (hidden notxpcom context : Bool) (ty : Meant) → IsMeaning count ty → IsLowerableSlot count (setter m.name hidden notxpcom context ty)
     setter_ok hidden notxpcom context ty h = record { word = ok.word; each = (value_ok count (value_param m.name ty ∷ []) m.name ty h, tt); value = ((λ is. (refl, refl)), tt) }
+
     setters : (readonly hidden notxpcom context : Bool) (ty : Meant) → IsMeaning count ty → AllByRecursion (IsLowerableSlot count) (if readonly then [] else (setter m.name hidden notxpcom context ty ∷ []))
     setters true hidden notxpcom context ty h = tt
     setters false hidden notxpcom context ty h = (setter_ok hidden notxpcom context ty h, tt)
+
     go : (b : ScopeBody) → IsLowerableBody count b → AllByRecursion (IsLowerableSlot count) (slots_in m.name b)
     go (body.Constant kind value) h = tt
     go (body.Attribute hidden notxpcom context readonly ty) h = (getter_ok hidden notxpcom context ty h, setters readonly hidden notxpcom context ty h)

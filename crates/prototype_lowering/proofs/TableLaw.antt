@@ -1,5 +1,5 @@
 -- The table of a lowered library is the table of its scope.
-use Rattle.std.proofs.Common.{◌≡◌, ℕ, zero, suc, ◌+◌, ◌==◌, ◌&&◌, ◌||◌, not, Bool, true, false, List, [], ◌∷◌, ◌++◌, length, map, take, drop, Option, Some, None, is_some, refl, sym, ap, ◌∙◌, arith, true≢false, nat_lt, if◌then◌else◌}
+use Rattle.std.proofs.Common.{◌≡◌, ℕ, ◌+◌, ◌==◌, ◌&&◌, ◌||◌, not, Bool, true, false, List, [], ◌∷◌, ◌++◌, length, map, take, drop, Option, Some, None, is_some, refl, sym, ap, ◌∙◌, arith, nat_lt, if◌then◌else◌}
 use Rattle.std.specs.List.{AllByRecursion, list_any}
 use Rattle.std.specs.Option.{unwrap_or}
 use Rattle.xp_base.specs.declared.kinds.Dir.{Dir}
@@ -8,15 +8,10 @@ use Rattle.call_model.specs.declared.ctypes.CType.{CType}
 use Rattle.call_model.specs.declared.ctypes.CType.TheVariants as c
 use Rattle.call_model.specs.declared.prototypes.MemberKind.{MemberKind}
 use Rattle.call_model.specs.declared.prototypes.MemberKind.TheVariants as kind
-use Rattle.call_model.specs.declared.prototypes.Note.{Note}
 use Rattle.call_model.specs.declared.prototypes.Note.TheVariants as note
-use Rattle.call_model.specs.declared.prototypes.Pass.{Pass}
 use Rattle.call_model.specs.declared.prototypes.Pass.TheVariants.{ByValue, ByRef, ByCell}
-use Rattle.call_model.specs.declared.prototypes.ProtoArg.{ProtoArg}
 use Rattle.call_model.specs.declared.prototypes.Status.{Status}
 use Rattle.call_model.specs.declared.prototypes.Status.TheVariants.{Callable, Hidden, NotXpcom, Opaque}
-use Rattle.call_model.specs.declared.tables.TableIface.{TableIface}
-use Rattle.call_model.specs.declared.tables.TableSlot.{TableSlot}
 use Rattle.idl_meaning.specs.declared.scope.Meant.{Meant}
 use Rattle.idl_meaning.specs.declared.scope.Meant.TheVariants as meant
 use Rattle.idl_meaning.specs.declared.scope.Scope.{Scope}
@@ -24,18 +19,13 @@ use Rattle.idl_meaning.specs.declared.scope.ScopeIface.{ScopeIface}
 use Rattle.idl_meaning.specs.declared.scope.ScopeParam.{ScopeParam}
 use Rattle.prototype_lowering.specs.Lowerable.{GivesLast, IsLowerableIface, IsLowerableParam, IsLowerable}
 use Rattle.idl_meaning.specs.Meaning.{is_class, is_iid}
-use Rattle.lib_model.specs.declared.contents.Body.{Body}
-use Rattle.lib_model.specs.declared.contents.Iface.{Iface}
-use Rattle.lib_model.specs.declared.contents.Method.{Method}
-use Rattle.lib_model.specs.declared.param_types.Elem.{Elem}
 use Rattle.lib_model.specs.declared.param_types.Param.{Param}
-use Rattle.lib_model.specs.declared.param_types.XType.{XType}
 use Rattle.lib_model.specs.declared.param_types.XType.TheVariants as types
 use Rattle.lib_model.specs.Table as table
 use Rattle.lib_model.specs.Table.{context_arg, count_arg, gives_value, table_iface, table_of, written_count}
-use Rattle.lib_model.specs.Valid.{parent_in, tag_of}
+use Rattle.lib_model.specs.Valid.{parent_in}
 use Rattle.vtable_layout.specs.Slots.{Slot, own_slots}
-use Rattle.prototype_lowering.specs.Directory.{directory_of, iid_of, in_order, number, parent_number}
+use Rattle.prototype_lowering.specs.Directory.{directory_of, iid_of, in_order, parent_number}
 use Rattle.prototype_lowering.specs.Limits.{HasItsTable}
 use Rattle.prototype_lowering.specs.Lowering.{alone, body_of, elem_of, goes_in, goes_out, iface_elem, iface_of, is_dipper, is_getter, is_setter, length_of, library_of, method_of, native_elem, param_of, size_of, sized_type, type_alone, type_of}
 use Rattle.prototype_lowering.specs.StaticTable as static
@@ -179,11 +169,14 @@ module _ (d : List ℕ) (count : ℕ) (s : Slot) (ok : IsLowerableSlot count s) 
       iface : (k : ℕ) (o : Option ℕ) → table.note_of (method_of d s) (alone (iface_elem d k o)) ≡ iface_note d s k o
       iface k None = refl
       iface k (Some iid) = ap note.IidAt (position_law iid)
+
       native : (o : Option ℕ) → table.note_of (method_of d s) (alone (native_elem o)) ≡ native_note s o
       native None = refl
       native (Some iid) = ap note.IidAt (position_law iid)
+
       counts : (size : ℕ) (elem : CType) → size_of p ≡ size → note.Count (table.position_in (method_of d s) size) (table.position_in (method_of d s) (length_of p)) elem ≡ count_note s p elem
       counts size elem is = λ j. note.Count ((position_law size ∙ ap (position s) (sym is)) j) (position_law (length_of p) j) elem
+
       sized : (tag : ℕ) (o : Option ℕ) → p.size ≡ o → table.note_of (method_of d s) (sized_type tag o (length_of p)) ≡ string_note s p tag o
       sized tag None is = refl
       sized tag (Some size) is = tagged (tag == 16) (tag == 17)
@@ -192,6 +185,7 @@ module _ (d : List ℕ) (count : ℕ) (s : Slot) (ok : IsLowerableSlot count s) 
           tagged true b = counts size c.Char (ap (λ o. unwrap_or o 0) is)
           tagged false true = counts size c.WChar (ap (λ o. unwrap_or o 0) is)
           tagged false false = refl
+
       by : (m : Meant) → table.note_of (method_of d s) (type_alone d p m) ≡ note_alone d s p m
       by (meant.Basic tag) = sized tag p.size refl
       by (meant.Iface k) = iface k p.iid
@@ -200,6 +194,7 @@ module _ (d : List ℕ) (count : ℕ) (s : Slot) (ok : IsLowerableSlot count s) 
       by (meant.StringClass tag) = refl
       by meant.JsVal = refl
       by (meant.Native name) = native p.iid
+
       go : (b : Bool) → table.note_of (method_of d s) (if b then types.Array (size_of p) (length_of p) (elem_of d p.ty p.iid) else type_alone d p p.ty) ≡ (if b then count_note s p (static.c_type p.ty) else note_alone d s p p.ty)
       go true = λ j. note.Count (position_law (size_of p) j) (position_law (length_of p) j) (elem_law d p.ty p.iid count accepted.meaning j)
       go false = by p.ty
@@ -263,9 +258,11 @@ iface_law d ifaces i ok = λ j. record {
     resolved : (b : Bool) → is_some (if b then Some (body_of d i) else None) ≡ b
     resolved true = refl
     resolved false = refl
+
     parent : (b : Bool) → parent_in (if b then Some (body_of d i) else None) ≡ (if b then parent_number d i.parent else 0)
     parent true = refl
     parent false = refl
+
     slots : (b : Bool) → map table.slot_of (table.methods_in (if b then Some (body_of d i) else None)) ≡ (if b then map (static_slot d) (own_slots i) else [])
     slots true = same_images (IsLowerableSlot (length ifaces)) (method_of d) table.slot_of (static_slot d) (λ s h. slot_law d (length ifaces) s h) (own_slots i) (iface_ok ifaces i ok)
     slots false = refl

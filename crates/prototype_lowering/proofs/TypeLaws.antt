@@ -1,19 +1,16 @@
 -- What is read off a lowered type is what the written type means.
-use Rattle.std.proofs.Common.{◌≡◌, ℕ, List, ◌==◌, ◌||◌, ◌&&◌, not, Bool, true, false, Option, Some, None, IsTrue, is_none, refl, sym, ap, subst, ◌∙◌, arith, true≢false, if◌then◌else◌}
-use Rattle.call_model.specs.declared.ctypes.CType.{CType}
+use Rattle.std.proofs.Common.{◌≡◌, ℕ, List, ◌==◌, ◌||◌, ◌&&◌, not, Bool, true, false, Option, Some, None, IsTrue, is_none, refl, sym, ap, ◌∙◌, arith, true≢false, if◌then◌else◌}
 use Rattle.call_model.specs.declared.ctypes.CType.TheVariants as c
 use Rattle.idl_meaning.specs.declared.scope.Meant.{Meant}
 use Rattle.idl_meaning.specs.declared.scope.Meant.TheVariants as meant
 use Rattle.idl_meaning.specs.declared.scope.ScopeParam.{ScopeParam}
 use Rattle.prototype_lowering.specs.Lowerable.{IsMeaning, is_basic_tag, is_class_tag}
 use Rattle.idl_meaning.specs.Meaning.{is_class, is_iid}
-use Rattle.lib_model.specs.declared.param_types.Elem.{Elem}
-use Rattle.lib_model.specs.declared.param_types.Elem.TheVariants as elems
 use Rattle.lib_model.specs.declared.param_types.XType.{XType}
 use Rattle.lib_model.specs.declared.param_types.XType.TheVariants as types
 use Rattle.lib_model.specs.Table.{elem_type, is_opaque, is_opaque_elem, is_opaque_tag, is_string_class, type_of_tag}
 use Rattle.lib_model.specs.Table as table
-use Rattle.lib_model.specs.Valid.{tag_of, tag_of_elem}
+use Rattle.lib_model.specs.Valid.{tag_of}
 use Rattle.prototype_lowering.specs.Lowering.{alone, elem_of, iface_elem, length_of, native_elem, size_of, sized_type, type_alone, type_of}
 use Rattle.prototype_lowering.specs.StaticTable as static
 
@@ -45,6 +42,7 @@ class_type tag class = go (tag == 15) (tag == 23) (tag == 24) (tag == 25) refl r
   where
     at : (n : ℕ) → (tag == n) ≡ true → type_of_tag n ≡ c.Ptr → type_of_tag tag ≡ c.Ptr
     at n h is = let same : tag ≡ n = grind (arith, h) in ap type_of_tag same ∙ is
+
     go : (a b d e : Bool) → (tag == 15) ≡ a → (tag == 23) ≡ b → (tag == 24) ≡ d → (tag == 25) ≡ e → (a || b || d || e) ≡ true → type_of_tag tag ≡ c.Ptr
     go true b d e h i j k one = at 15 h refl
     go false true d e h i j k one = at 23 i refl
@@ -73,9 +71,11 @@ class_law d p count meaning no_class = go p.array refl
     iface : (k : ℕ) (o : Option ℕ) → is_string_class (tag_of (alone (iface_elem d k o))) ≡ false
     iface k None = refl
     iface k (Some iid) = refl
+
     native : (o : Option ℕ) → is_string_class (tag_of (alone (native_elem o))) ≡ false
     native None = refl
     native (Some iid) = refl
+
     by : (m : Meant) → IsMeaning count m → is_string_class (tag_of (type_alone d p m)) ≡ is_class m
     by (meant.Basic tag) h = sized_as (λ t. is_string_class (tag_of t)) is_string_class (length_of p) (λ tag. refl) (λ size. refl) (λ size. refl) tag p.size ∙ no_class_tag tag (passed (is_basic_tag tag) h)
     by (meant.Iface k) h = iface k p.iid
@@ -84,6 +84,7 @@ class_law d p count meaning no_class = go p.array refl
     by (meant.StringClass tag) h = passed (is_class_tag tag) h
     by meant.JsVal h = refl
     by (meant.Native name) h = native p.iid
+
     go : (b : Bool) → p.array ≡ b → is_string_class (tag_of (if b then types.Array (size_of p) (length_of p) (elem_of d p.ty p.iid) else type_alone d p p.ty)) ≡ is_class p.ty
     go true h = sym (no_class h)
     go false h = by p.ty meaning
@@ -95,9 +96,11 @@ iid_law d p count meaning = go p.array
     iface : (k : ℕ) (o : Option ℕ) → (tag_of (alone (iface_elem d k o)) == 14) ≡ false
     iface k None = refl
     iface k (Some iid) = refl
+
     native : (o : Option ℕ) → (tag_of (alone (native_elem o)) == 14) ≡ false
     native None = refl
     native (Some iid) = refl
+
     by : (m : Meant) → IsMeaning count m → (tag_of (type_alone d p m) == 14) ≡ is_iid m
     by (meant.Basic tag) h = sized_as (λ t. tag_of t == 14) (λ tag. tag == 14) (length_of p) (λ tag. refl) (λ size. refl) (λ size. refl) tag p.size ∙ differs is_basic_tag tag 14 (passed (is_basic_tag tag) h) refl
     by (meant.Iface k) h = iface k p.iid
@@ -106,12 +109,15 @@ iid_law d p count meaning = go p.array
     by (meant.StringClass tag) h = differs is_class_tag tag 14 (passed (is_class_tag tag) h) refl
     by meant.JsVal h = refl
     by (meant.Native name) h = native p.iid
+
     and_true : (a : Bool) → a ≡ (a && true)
     and_true true = refl
     and_true false = refl
+
     and_false : (a : Bool) → false ≡ (a && false)
     and_false true = refl
     and_false false = refl
+
     go : (b : Bool) → (tag_of (if b then types.Array (size_of p) (length_of p) (elem_of d p.ty p.iid) else type_alone d p p.ty) == 14) ≡ (is_iid p.ty && not b)
     go true = and_false (is_iid p.ty)
     go false = by p.ty meaning ∙ and_true (is_iid p.ty)
@@ -134,9 +140,11 @@ type_law d p count meaning = go p.array
     iface : (k : ℕ) (o : Option ℕ) → table.c_type (alone (iface_elem d k o)) ≡ c.Ptr
     iface k None = refl
     iface k (Some iid) = refl
+
     native : (o : Option ℕ) → table.c_type (alone (native_elem o)) ≡ c.Ptr
     native None = refl
     native (Some iid) = refl
+
     by : (m : Meant) → IsMeaning count m → table.c_type (type_alone d p m) ≡ static.c_type m
     by (meant.Basic tag) h = sized_as table.c_type type_of_tag (length_of p) (λ tag. refl) (λ size. refl) (λ size. refl) tag p.size
     by (meant.Iface k) h = iface k p.iid
@@ -145,6 +153,7 @@ type_law d p count meaning = go p.array
     by (meant.StringClass tag) h = class_type tag (passed (is_class_tag tag) h)
     by meant.JsVal h = refl
     by (meant.Native name) h = native p.iid
+
     go : (b : Bool) → table.c_type (if b then types.Array (size_of p) (length_of p) (elem_of d p.ty p.iid) else type_alone d p p.ty) ≡ (if b then c.Ptr else static.c_type p.ty)
     go true = refl
     go false = by p.ty meaning
@@ -156,14 +165,17 @@ opaque_law d p count meaning no_class = go p.array refl
     iface : (k : ℕ) (o : Option ℕ) → is_opaque (alone (iface_elem d k o)) ≡ false
     iface k None = refl
     iface k (Some iid) = refl
+
     native : (o : Option ℕ) → is_opaque (alone (native_elem o)) ≡ is_none o
     native None = refl
     native (Some iid) = refl
+
     by : (m : Meant) → IsMeaning count m → is_opaque (type_alone d p m) ≡ static.is_opaque_meaning m p.iid
     by (meant.Basic tag) h = go_sized p.size
       where
         none : is_opaque_tag tag ≡ false
         none = no_opaque_tag tag (passed (is_basic_tag tag) h)
+
         go_sized : (o : Option ℕ) → is_opaque (sized_type tag o (length_of p)) ≡ false
         go_sized None = none
         go_sized (Some size) = tagged (tag == 16) (tag == 17)
@@ -178,12 +190,15 @@ opaque_law d p count meaning no_class = go p.array refl
     by (meant.StringClass tag) h = class_not_opaque tag (passed (is_class_tag tag) h)
     by meant.JsVal h = refl
     by (meant.Native name) h = native p.iid
+
     iface_in : (k : ℕ) (o : Option ℕ) → is_opaque_elem (iface_elem d k o) ≡ false
     iface_in k None = refl
     iface_in k (Some iid) = refl
+
     native_in : (o : Option ℕ) → is_opaque_elem (native_elem o) ≡ is_none o
     native_in None = refl
     native_in (Some iid) = refl
+
     inside : (m : Meant) → IsMeaning count m → is_class m ≡ false → is_opaque_elem (elem_of d m p.iid) ≡ static.is_opaque_meaning m p.iid
     inside (meant.Basic tag) h not_class = λ j. no_opaque_tag tag (passed (is_basic_tag tag) h) j || no_class_tag tag (passed (is_basic_tag tag) h) j
     inside (meant.Iface k) h not_class = iface_in k p.iid
@@ -192,6 +207,7 @@ opaque_law d p count meaning no_class = go p.array refl
     inside (meant.StringClass tag) h not_class = absurd (true≢false not_class)
     inside meant.JsVal h not_class = refl
     inside (meant.Native name) h not_class = native_in p.iid
+
     go : (b : Bool) → p.array ≡ b → is_opaque (if b then types.Array (size_of p) (length_of p) (elem_of d p.ty p.iid) else type_alone d p p.ty) ≡ static.is_opaque p
     go true h = inside p.ty meaning (no_class h)
     go false h = by p.ty meaning

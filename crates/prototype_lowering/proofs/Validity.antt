@@ -1,11 +1,11 @@
 -- The library of an accepted scope is valid, where it keeps the limits.
-use Rattle.std.proofs.Common.{◌≡◌, ◌⊎◌, ℕ, ℤ, zero, suc, ◌+◌, ◌<◌, ◌≤◌, ◌==◌, ◌||◌, ◌&&◌, not, Bool, true, false, List, [], ◌∷◌, ◌++◌, length, get_or, map, Option, Some, None, IfSome, IsSome, IsSomeAnd, refl, sym, ap, subst, ◌∙◌, arith, inl, inr, All, IsTrue, nat_lt, nat_le, nat_eq, ltb-false, leb-true, true≢false, sum_by, slice_get, option_map, option_and_then, length-append, if◌then◌else◌}
+use Rattle.std.proofs.Common.{◌≡◌, ℕ, ℤ, zero, suc, ◌+◌, ◌<◌, ◌≤◌, ◌==◌, ◌||◌, ◌&&◌, Bool, true, false, List, [], ◌∷◌, ◌++◌, length, get_or, map, Option, Some, None, IfSome, IsSome, IsSomeAnd, refl, sym, ap, subst, ◌∙◌, arith, inl, inr, All, nat_lt, nat_le, nat_eq, ltb-false, leb-true, true≢false, sum_by, slice_get, option_map, option_and_then, length-append, if◌then◌else◌}
 use Rattle.std.specs.List.{AllByRecursion, flat_map, list_any, position_or_len}
 use Rattle.std.specs.Int.RustNames.{bit_and}
 use Rattle.std.specs.Option.{unwrap_or}
 use Rattle.std.proofs.lemmas.List.{length-map}
 use Rattle.std.proofs.lemmas.List.Sums.{sum_by-cons}
-use Rattle.std.proofs.lemmas.Option.{slice_get-get_or, slice_get-map, slice_get_within}
+use Rattle.std.proofs.lemmas.Option.{slice_get-map}
 use Rattle.xp_base.specs.declared.kinds.ConstKind.{ConstKind}
 use Rattle.xp_base.specs.declared.kinds.ConstKind.TheVariants as kinds
 use Rattle.idl_meaning.specs.declared.scope.Meant.{Meant}
@@ -16,21 +16,18 @@ use Rattle.idl_meaning.specs.declared.scope.ScopeBody.TheVariants as body
 use Rattle.idl_meaning.specs.declared.scope.ScopeIface.{ScopeIface}
 use Rattle.idl_meaning.specs.declared.scope.ScopeMember.{ScopeMember}
 use Rattle.idl_meaning.specs.declared.scope.ScopeParam.{ScopeParam}
-use Rattle.prototype_lowering.specs.Lowerable.{HaveNamesOfTheirOwn, IsLowerableBody, IsLowerableIface, IsLowerableMember, IsLowerableParam, IsLowerable, IsDefinedAt, IsMeaning, IsOfKind, IsSingle, IsSingleAt, IsWord, is_basic_tag, is_class_tag}
+use Rattle.prototype_lowering.specs.Lowerable.{IsLowerableBody, IsLowerableIface, IsLowerableMember, IsLowerableParam, IsLowerable, IsDefinedAt, IsMeaning, IsOfKind, IsSingle, IsSingleAt, IsWord, is_basic_tag, is_class_tag}
 use Rattle.idl_meaning.specs.Meaning.{is_iid, is_integer}
 use Rattle.lib_model.specs.declared.contents.Body.{Body}
-use Rattle.lib_model.specs.declared.contents.Constant.{Constant}
 use Rattle.lib_model.specs.declared.contents.Iface.{Iface}
 use Rattle.lib_model.specs.declared.param_types.Elem.{Elem}
 use Rattle.lib_model.specs.declared.param_types.Elem.TheVariants as elems
 use Rattle.lib_model.specs.declared.param_types.Param.{Param}
-use Rattle.lib_model.specs.declared.param_types.XType.{XType}
 use Rattle.lib_model.specs.declared.param_types.XType.TheVariants as types
 use Rattle.lib_model.specs.Valid.{AreKnownBits, IsBody, IsChain, IsConstant, IsCountParam, IsElem, IsIface, IsIfaceNumber, IsIidParam, IsInRange, IsMethod, IsName, IsNamespace, IsParam, IsParent, IsPlainTag, IsType, IsValid, chain_of, first_of_chain, iface_bits, item_count, parent_in, slots_in, tag_of}
 use Rattle.lib_model.specs.Valid as valid
 use Rattle.vtable_layout.specs.Layout.{has_too_many}
 use Rattle.vtable_layout.specs.Slots.{Slot, above, chain_within, own_in, own_of, own_slots, parent_of, slots_of_member, slots_within}
-use Rattle.vtable_layout.specs.Slots as slots
 use Rattle.vtable_layout.proofs.Climbing.{few_parents, few_slots}
 use Rattle.prototype_lowering.specs.Directory.{directory_of, in_order, number, parent_number, zero_iid}
 use Rattle.prototype_lowering.specs.Limits.{KeepsLimits, constant_count, has_many_constants, is_wide_found, is_wide_slot}
@@ -38,7 +35,7 @@ use Rattle.prototype_lowering.specs.Lowering.{alone, body_of, constants_in, cons
 use Rattle.idl_meaning.specs.Meaning.{is_class}
 use Rattle.prototype_lowering.proofs.DirectoryLaws.{in_directory, length_directory, length_in_order, numbers_within, shows, shows_at}
 use Rattle.prototype_lowering.proofs.FlagLaws.{method_known, param_known}
-use Rattle.prototype_lowering.proofs.ScopeFacts.{IsLowerableSlot, all_by, at_number, both_parts, by_all, each_found, iface_ok, weaker}
+use Rattle.prototype_lowering.proofs.ScopeFacts.{IsLowerableSlot, all_by, at_number, both_parts, by_all, each_found, iface_ok}
 use Rattle.prototype_lowering.proofs.TypeLaws.{differs, passed}
 
 -- ---- lists
@@ -56,12 +53,12 @@ together : {A : Type 0} (P Q : A → Type 0) (xs : List A) → AllByRecursion P 
 together P Q [] h k = tt
 together P Q (x ∷ xs) h k = ((h.0, k.0), together P Q xs h.1 k.1)
 
-some_within : {A : Type 0} (P : A → Type 0) (xs : List A) (n : ℕ) → IsSomeAnd (slice_get xs n) P → n < length xs
+pub some_within : {A : Type 0} (P : A → Type 0) (xs : List A) (n : ℕ) → IsSomeAnd (slice_get xs n) P → n < length xs
 some_within P [] n h = absurd h
 some_within P (x ∷ xs) zero h = omega arith
 some_within P (x ∷ xs) (suc n) h = omega (arith, some_within P xs n h)
 
-no_first : (a b : Bool) → (a || b) ≡ false → a ≡ false
+pub no_first : (a b : Bool) → (a || b) ≡ false → a ≡ false
 no_first true b h = h
 no_first false b h = refl
 
@@ -131,6 +128,7 @@ number_type d q h = go q.array h.no_array
         tagged true b i j = absurd (true≢false i)
         tagged false true i j = absurd (true≢false j)
         tagged false false i j = integer_tag tag k
+
     by : (m : Meant) → is_integer m ≡ true → tag_of (type_alone d q m) ≤ 7
     by (meant.Basic tag) k = sized tag k q.size
     by (meant.Iface n) k = absurd (true≢false (sym k))
@@ -139,6 +137,7 @@ number_type d q h = go q.array h.no_array
     by (meant.StringClass tag) k = absurd (true≢false (sym k))
     by meant.JsVal k = absurd (true≢false (sym k))
     by (meant.Native name) k = absurd (true≢false (sym k))
+
     go : (b : Bool) → b ≡ false → tag_of (if b then types.Array (size_of q) (length_of q) (elem_of d q.ty q.iid) else type_alone d q q.ty) ≤ 7
     go true e = absurd (true≢false e)
     go false e = by q.ty h.passes
@@ -154,6 +153,7 @@ iid_type d q h = go q.array h.no_array
     by (meant.StringClass tag) k = absurd (true≢false (sym k))
     by meant.JsVal k = absurd (true≢false (sym k))
     by (meant.Native name) k = absurd (true≢false (sym k))
+
     go : (b : Bool) → b ≡ false → tag_of (if b then types.Array (size_of q) (length_of q) (elem_of d q.ty q.iid) else type_alone d q q.ty) ≡ 14
     go true e = absurd (true≢false e)
     go false e = by q.ty h.passes
@@ -207,6 +207,7 @@ module _ (d : List ℕ) (count : ℕ) (numbers : NumbersThem d count) where
     where
       len : IsSome p.size → IsCountParam (map (param_of d) params) (length_of p)
       len some = length_valid params p.length (size_of p) ok.length_named (size_valid params p.size ok.size_named some)
+
       by : (m : Meant) → IsMeaning count m → IsType count (map (param_of d) params) (type_alone d p m)
       by (meant.Basic tag) h = sized_valid params tag (length_of p) (passed (is_basic_tag tag) h) p.size ok.size_named len
       by (meant.Iface n) h = alone_valid (map (param_of d) params) (iface_elem d n p.iid) (elem_valid params (meant.Iface n) h p.iid ok.iid_named)
@@ -215,6 +216,7 @@ module _ (d : List ℕ) (count : ℕ) (numbers : NumbersThem d count) where
       by (meant.StringClass tag) h = plain_class tag (passed (is_class_tag tag) h)
       by meant.JsVal h = inr (omega arith, omega arith)
       by (meant.Native name) h = alone_valid (map (param_of d) params) (native_elem p.iid) (elem_valid params (meant.Native name) h p.iid ok.iid_named)
+
       go : (b : Bool) → p.array ≡ b → IsType count (map (param_of d) params) (if b then types.Array (size_of p) (length_of p) (elem_of d p.ty p.iid) else type_alone d p p.ty)
       go true is = (size_valid params p.size ok.size_named (ok.sized_array is), len (ok.sized_array is), elem_valid params p.ty ok.meaning p.iid ok.iid_named)
       go false is = by p.ty ok.meaning
@@ -279,7 +281,7 @@ module _ (s : Scope) (ok : IsLowerable s) where
   body_at : (m k : ℕ) (i : ScopeIface) → Shows m k → slice_get s.ifaces k ≡ Some i → valid.body_of (map (iface_of (directory_of s.ifaces)) (in_order s.ifaces)) (suc m) ≡ (if i.defined then Some (body_of (directory_of s.ifaces) i) else None)
   unfolding Shows
   body_at m k i show is =
-    ap (option_and_then (λ (f : Iface). f.body)) (slice_get-map (iface_of (directory_of s.ifaces)) (in_order s.ifaces) m ∙ ap (option_map (iface_of (directory_of s.ifaces))) (show ∙ is))
+      ap (option_and_then (λ (f : Iface). f.body)) (slice_get-map (iface_of (directory_of s.ifaces)) (in_order s.ifaces) m ∙ ap (option_map (iface_of (directory_of s.ifaces))) (show ∙ is))
 
   parent_law : (m k : ℕ) (i : ScopeIface) → Shows m k → slice_get s.ifaces k ≡ Some i → valid.parent_of (map (iface_of (directory_of s.ifaces)) (in_order s.ifaces)) (suc m) ≡ parent_number (directory_of s.ifaces) (parent_of s.ifaces k)
   parent_law m k i show is = ap parent_in (body_at m k i show is) ∙ go i.defined refl ∙ ap (parent_number (directory_of s.ifaces)) (sym (ap (option_and_then (λ (o : ScopeIface). o.parent)) is))
@@ -297,8 +299,8 @@ module _ (s : Scope) (ok : IsLowerable s) where
 
   parent_within : (k p : ℕ) (i : ScopeIface) → slice_get s.ifaces k ≡ Some i → parent_of s.ifaces k ≡ Some p → p < length s.ifaces
   parent_within k p i is up =
-    let own : i.parent ≡ Some p = sym (ap (option_and_then (λ (o : ScopeIface). o.parent)) is) ∙ up
-    in some_within (λ (o : ScopeIface). o.defined ≡ true) s.ifaces p (subst (λ (o : Option ℕ). IfSome o (IsDefinedAt s.ifaces)) own (accepted_at k i is).parent_defined)
+      let own : i.parent ≡ Some p = sym (ap (option_and_then (λ (o : ScopeIface). o.parent)) is) ∙ up
+      in some_within (λ (o : ScopeIface). o.defined ≡ true) s.ifaces p (subst (λ (o : Option ℕ). IfSome o (IsDefinedAt s.ifaces)) own (accepted_at k i is).parent_defined)
 
   found : (k : ℕ) → k < length s.ifaces → (i : ScopeIface) × (slice_get s.ifaces k ≡ Some i)
   found k within = go (slice_get s.ifaces k) refl
@@ -330,9 +332,9 @@ module _ (s : Scope) (ok : IsLowerable s) where
           in record {
             long = λ j. suc (length ((none ∙ sym chain) j));
             slots = sum_by-cons (valid.own_slots (map (iface_of (directory_of s.ifaces)) (in_order s.ifaces))) (suc m) (first_of_chain (map (iface_of (directory_of s.ifaces)) (in_order s.ifaces)) n (valid.parent_of (map (iface_of (directory_of s.ifaces)) (in_order s.ifaces)) (suc m)))
-              ∙ (λ j. own_law m k (found k within).0 show (found k within).1 j + sum_by (valid.own_slots (map (iface_of (directory_of s.ifaces)) (in_order s.ifaces))) (none j))
-              ∙ (let e : length (own_of s.ifaces k) + 0 ≡ length ([] ++ own_of s.ifaces k) = omega arith in e)
-              ∙ sym (ap (λ ss. length (ss ++ own_of s.ifaces k)) parents);
+                ∙ (λ j. own_law m k (found k within).0 show (found k within).1 j + sum_by (valid.own_slots (map (iface_of (directory_of s.ifaces)) (in_order s.ifaces))) (none j))
+                ∙ (let e : length (own_of s.ifaces k) + 0 ≡ length ([] ++ own_of s.ifaces k) = omega arith in e)
+                ∙ sym (ap (λ ss. length (ss ++ own_of s.ifaces k)) parents);
           }
       go (Some p) up rest =
           let up_law : valid.parent_of (map (iface_of (directory_of s.ifaces)) (in_order s.ifaces)) (suc m) ≡ number (directory_of s.ifaces) p = parent_law m k (found k within).0 show (found k within).1 ∙ ap (parent_number (directory_of s.ifaces)) up
@@ -350,14 +352,14 @@ module _ (s : Scope) (ok : IsLowerable s) where
   chain_valid : ((k : ℕ) → k < length s.ifaces → has_too_many s.ifaces k ≡ false) → (m : ℕ) → m < length s.ifaces → IsChain (map (iface_of (directory_of s.ifaces)) (in_order s.ifaces)) (suc m)
   unfolding Shows
   chain_valid few m within =
-    let inside : m < length (directory_of s.ifaces) = omega (arith, length_directory s.ifaces ok.own_names)
-    in let k = get_or (directory_of s.ifaces) m 0
-    in let below : k < length s.ifaces = all_by (λ x. x < length s.ifaces) (directory_of s.ifaces) (numbers_within s.ifaces ok.own_names) m 0 inside
-    in let chain = same_chain 251 m k (shows_at s.ifaces ok.own_names m inside) below
-    in record {
-      short = omega (arith, chain.long, few_parents s.ifaces k (few k below));
-      few_slots = omega (arith, chain.slots, few_slots s.ifaces k (few k below));
-    }
+      let inside : m < length (directory_of s.ifaces) = omega (arith, length_directory s.ifaces ok.own_names)
+      in let k = get_or (directory_of s.ifaces) m 0
+      in let below : k < length s.ifaces = all_by (λ x. x < length s.ifaces) (directory_of s.ifaces) (numbers_within s.ifaces ok.own_names) m 0 inside
+      in let chain = same_chain 251 m k (shows_at s.ifaces ok.own_names m inside) below
+      in record {
+        short = omega (arith, chain.long, few_parents s.ifaces k (few k below));
+        few_slots = omega (arith, chain.slots, few_slots s.ifaces k (few k below));
+      }
 
   -- ---- interfaces
 
@@ -377,8 +379,8 @@ module _ (s : Scope) (ok : IsLowerable s) where
   body_valid i accepted narrow few = record {
     parent = parent_valid i accepted;
     methods =
-      let each : AllByRecursion (IsMethod (length s.ifaces)) (map (method_of (directory_of s.ifaces)) (own_slots i)) = mapped (λ (t : Slot). IsLowerableSlot (length s.ifaces) t × (is_wide_slot t ≡ false)) (IsMethod (length s.ifaces)) (method_of (directory_of s.ifaces)) (λ t h. method_valid (directory_of s.ifaces) (length s.ifaces) numbers_them t h.0 h.1) (own_slots i) (together (IsLowerableSlot (length s.ifaces)) (λ (t : Slot). is_wide_slot t ≡ false) (own_slots i) (iface_ok s.ifaces i accepted) (narrow_slots i.members narrow))
-      in subst (λ (n : ℕ). All (IsMethod n) (map (method_of (directory_of s.ifaces)) (own_slots i))) (sym many) (all_by (IsMethod (length s.ifaces)) (map (method_of (directory_of s.ifaces)) (own_slots i)) each);
+        let each : AllByRecursion (IsMethod (length s.ifaces)) (map (method_of (directory_of s.ifaces)) (own_slots i)) = mapped (λ (t : Slot). IsLowerableSlot (length s.ifaces) t × (is_wide_slot t ≡ false)) (IsMethod (length s.ifaces)) (method_of (directory_of s.ifaces)) (λ t h. method_valid (directory_of s.ifaces) (length s.ifaces) numbers_them t h.0 h.1) (own_slots i) (together (IsLowerableSlot (length s.ifaces)) (λ (t : Slot). is_wide_slot t ≡ false) (own_slots i) (iface_ok s.ifaces i accepted) (narrow_slots i.members narrow))
+        in subst (λ (n : ℕ). All (IsMethod n) (map (method_of (directory_of s.ifaces)) (own_slots i))) (sym many) (all_by (IsMethod (length s.ifaces)) (map (method_of (directory_of s.ifaces)) (own_slots i)) each);
     few_constants = few;
     constants = all_by IsConstant (flat_map constants_of_member i.members) (constants_valid (length s.ifaces) i.members (by_all (IsLowerableMember (length s.ifaces)) i.members accepted.each));
     flags = flags_known i accepted.known_flags accepted.flag_byte;
@@ -395,6 +397,7 @@ module _ (s : Scope) (ok : IsLowerable s) where
       iid_long : (b : Bool) → length (if b then i.iid else zero_iid) ≡ 16
       iid_long true = accepted.iid_bytes
       iid_long false = refl
+
       go : (b : Bool) → nat_lt 65535 (constant_count (if b then Some (body_of (directory_of s.ifaces) i) else None)) ≡ false → IfSome (if b then Some (body_of (directory_of s.ifaces) i) else None) (IsBody (map (iface_of (directory_of s.ifaces)) (in_order s.ifaces)))
       go true h = body_valid i accepted narrow (ltb-false 65535 (length (flat_map constants_of_member i.members)) h)
       go false h = tt
@@ -402,18 +405,18 @@ module _ (s : Scope) (ok : IsLowerable s) where
   pub library_valid : KeepsLimits s → IsValid (library_of s)
   unfolding library_of
   library_valid limits =
-    let items = no_first (nat_lt 1000000 (item_count (library_of s))) (list_any has_many_constants (map (iface_of (directory_of s.ifaces)) (in_order s.ifaces))) limits.few_items
-    in let constants = no_second (nat_lt 1000000 (item_count (library_of s))) (list_any has_many_constants (map (iface_of (directory_of s.ifaces)) (in_order s.ifaces))) limits.few_items
-    in let accepted : AllByRecursion (IsLowerableIface s.ifaces) (in_order s.ifaces) = each_found (IsLowerableIface s.ifaces) s.ifaces (directory_of s.ifaces) accepted_at
-    in let narrow : AllByRecursion (λ (i : ScopeIface). (m : ℕ) → is_wide_found (slice_get i.members m) ≡ false) (in_order s.ifaces) = each_found (λ (i : ScopeIface). (m : ℕ) → is_wide_found (slice_get i.members m) ≡ false) s.ifaces (directory_of s.ifaces) (λ k i is m. sym (ap (λ (o : Option ScopeIface). is_wide_found (option_and_then (λ (h : ScopeIface). slice_get h.members m) o)) is) ∙ limits.narrow k m)
-    in let few : AllByRecursion (λ (i : ScopeIface). has_many_constants (iface_of (directory_of s.ifaces) i) ≡ false) (in_order s.ifaces) = none_mapped has_many_constants (iface_of (directory_of s.ifaces)) (in_order s.ifaces) constants
-    in let each = together (IsLowerableIface s.ifaces) (λ (i : ScopeIface). ((m : ℕ) → is_wide_found (slice_get i.members m) ≡ false) × (has_many_constants (iface_of (directory_of s.ifaces) i) ≡ false)) (in_order s.ifaces) accepted (together (λ (i : ScopeIface). (m : ℕ) → is_wide_found (slice_get i.members m) ≡ false) (λ (i : ScopeIface). has_many_constants (iface_of (directory_of s.ifaces) i) ≡ false) (in_order s.ifaces) narrow few)
-    in record {
-      few = omega (arith, many, limits.few);
-      ifaces = all_by (IsIface (map (iface_of (directory_of s.ifaces)) (in_order s.ifaces))) (map (iface_of (directory_of s.ifaces)) (in_order s.ifaces)) (mapped (λ (i : ScopeIface). IsLowerableIface s.ifaces i × (((m : ℕ) → is_wide_found (slice_get i.members m) ≡ false) × (has_many_constants (iface_of (directory_of s.ifaces) i) ≡ false))) (IsIface (map (iface_of (directory_of s.ifaces)) (in_order s.ifaces))) (iface_of (directory_of s.ifaces)) (λ i h. iface_valid i h.0 h.1.0 h.1.1) (in_order s.ifaces) each);
-      chains = λ n above_none within. chains_from n above_none (omega (arith, many, within));
-      few_items = ltb-false 1000000 (item_count (library_of s)) items;
-    }
+      let items = no_first (nat_lt 1000000 (item_count (library_of s))) (list_any has_many_constants (map (iface_of (directory_of s.ifaces)) (in_order s.ifaces))) limits.few_items
+      in let constants = no_second (nat_lt 1000000 (item_count (library_of s))) (list_any has_many_constants (map (iface_of (directory_of s.ifaces)) (in_order s.ifaces))) limits.few_items
+      in let accepted : AllByRecursion (IsLowerableIface s.ifaces) (in_order s.ifaces) = each_found (IsLowerableIface s.ifaces) s.ifaces (directory_of s.ifaces) accepted_at
+      in let narrow : AllByRecursion (λ (i : ScopeIface). (m : ℕ) → is_wide_found (slice_get i.members m) ≡ false) (in_order s.ifaces) = each_found (λ (i : ScopeIface). (m : ℕ) → is_wide_found (slice_get i.members m) ≡ false) s.ifaces (directory_of s.ifaces) (λ k i is m. sym (ap (λ (o : Option ScopeIface). is_wide_found (option_and_then (λ (h : ScopeIface). slice_get h.members m) o)) is) ∙ limits.narrow k m)
+      in let few : AllByRecursion (λ (i : ScopeIface). has_many_constants (iface_of (directory_of s.ifaces) i) ≡ false) (in_order s.ifaces) = none_mapped has_many_constants (iface_of (directory_of s.ifaces)) (in_order s.ifaces) constants
+      in let each = together (IsLowerableIface s.ifaces) (λ (i : ScopeIface). ((m : ℕ) → is_wide_found (slice_get i.members m) ≡ false) × (has_many_constants (iface_of (directory_of s.ifaces) i) ≡ false)) (in_order s.ifaces) accepted (together (λ (i : ScopeIface). (m : ℕ) → is_wide_found (slice_get i.members m) ≡ false) (λ (i : ScopeIface). has_many_constants (iface_of (directory_of s.ifaces) i) ≡ false) (in_order s.ifaces) narrow few)
+      in record {
+        few = omega (arith, many, limits.few);
+        ifaces = all_by (IsIface (map (iface_of (directory_of s.ifaces)) (in_order s.ifaces))) (map (iface_of (directory_of s.ifaces)) (in_order s.ifaces)) (mapped (λ (i : ScopeIface). IsLowerableIface s.ifaces i × (((m : ℕ) → is_wide_found (slice_get i.members m) ≡ false) × (has_many_constants (iface_of (directory_of s.ifaces) i) ≡ false))) (IsIface (map (iface_of (directory_of s.ifaces)) (in_order s.ifaces))) (iface_of (directory_of s.ifaces)) (λ i h. iface_valid i h.0 h.1.0 h.1.1) (in_order s.ifaces) each);
+        chains = λ n above_none within. chains_from n above_none (omega (arith, many, within));
+        few_items = ltb-false 1000000 (item_count (library_of s)) items;
+      }
     where
       chains_from : (n : ℕ) → 0 < n → n ≤ length s.ifaces → IsChain (map (iface_of (directory_of s.ifaces)) (in_order s.ifaces)) n
       chains_from zero some within = absurd (omega arith)

@@ -37,6 +37,15 @@ is_wide_at ifaces k place =
 abbrev pub NoneIsWide : List ScopeIface → Type 0
 NoneIsWide ifaces = (k place : ℕ) → is_wide_at ifaces k place ≡ false
 
+-- no member of an interface has too many
+abbrev pub NoMemberIsWide : List ScopeMember → Type 0
+NoMemberIsWide members = (place : ℕ) → is_wide_found (slice_get members place) ≡ false
+
+-- the first of its members that has
+pub record IsFirstMember (members : List ScopeMember) (place : ℕ) : Type 0 where
+  pub wide : is_wide_found (slice_get members place) ≡ true
+  pub first : (m : ℕ) → m < place → is_wide_found (slice_get members m) ≡ false
+
 -- the first such member of the first such interface
 pub record IsFirstWide (ifaces : List ScopeIface) (number place : ℕ) : Type 0 where
   pub wide : is_wide_at ifaces number place ≡ true

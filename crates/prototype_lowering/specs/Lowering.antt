@@ -1,5 +1,5 @@
 -- The library of a scope: what the XPCOM typelib format says of its interfaces.
-use Rattle.std.specs.Prelude.{ℕ, zero, ◌+◌, ◌==◌, Bool, true, false, not, List, [], ◌∷◌, map, Option, Some, None, if◌then◌else◌}
+use Rattle.std.specs.Prelude.{ℕ, ◌+◌, ◌==◌, Bool, true, false, not, List, [], ◌∷◌, map, Option, Some, None, if◌then◌else◌}
 use Rattle.std.specs.List.{flat_map}
 use Rattle.std.specs.Option.{unwrap_or}
 use Rattle.xp_base.specs.declared.kinds.Dir.{Dir}
@@ -64,10 +64,13 @@ is_dipper Inward class = false
 is_dipper Outward class = class
 is_dipper Both class = false
 
+-- by the direction, whether it is a string class, and the marks retval, shared and optional
+abbrev pub flags_by : Dir → Bool → Bool → Bool → Bool → ℕ
+flags_by dir class retval shared optional =
+    param_flags (goes_in dir class) (goes_out dir class) retval shared (is_dipper dir class) optional
+
 abbrev pub flags_of : ScopeParam → ℕ
-flags_of p =
-    param_flags (goes_in p.dir (is_class p.ty)) (goes_out p.dir (is_class p.ty)) p.retval p.shared
-    (is_dipper p.dir (is_class p.ty)) p.optional
+flags_of p = flags_by p.dir (is_class p.ty) p.retval p.shared p.optional
 
 -- ---- types
 
@@ -140,10 +143,15 @@ is_setter kind.Plain = false
 is_setter kind.Get = false
 is_setter kind.Set = true
 
+-- the flags of a slot of this kind
+abbrev pub slot_flags : MemberKind → Bool → Bool → Bool → Bool → ℕ
+slot_flags kind notxpcom hidden argc context =
+    method_flags (is_getter kind) (is_setter kind) notxpcom hidden argc context
+
 abbrev pub method_of : List ℕ → Slot → Method
 method_of d s = record {
   name = s.name;
-  flags = record { bits = method_flags (is_getter s.kind) (is_setter s.kind) s.notxpcom s.hidden s.argc s.context };
+  flags = record { bits = slot_flags s.kind s.notxpcom s.hidden s.argc s.context };
   params = map (param_of d) s.params;
 }
 

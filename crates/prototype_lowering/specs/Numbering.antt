@@ -1,6 +1,6 @@
 -- What the code keeps of a directory, and what it asks of what it lowers.
-use Rattle.std.specs.Prelude.{◌≡◌, ℕ, ◌<◌, ◌≤◌, List, length, slice_index, Option, IfSome, All}
-use Rattle.std.specs.List.{flat_map}
+use Rattle.std.specs.Prelude.{◌≡◌, ℕ, ◌<◌, ◌++◌, List, length, map, slice_get, slice_index, Option, IfSome, All}
+use Rattle.std.specs.List.{filter_map}
 use Rattle.idl_meaning.specs.declared.scope.Meant.{Meant}
 use Rattle.idl_meaning.specs.declared.scope.Meant.TheVariants as meant
 use Rattle.idl_meaning.specs.declared.scope.ScopeBody.{ScopeBody}
@@ -8,12 +8,44 @@ use Rattle.idl_meaning.specs.declared.scope.ScopeBody.TheVariants as body
 use Rattle.idl_meaning.specs.declared.scope.ScopeIface.{ScopeIface}
 use Rattle.idl_meaning.specs.declared.scope.ScopeMember.{ScopeMember}
 use Rattle.idl_meaning.specs.declared.scope.ScopeParam.{ScopeParam}
+use Rattle.lib_model.specs.declared.contents.Iface.{Iface}
+use Rattle.lib_model.specs.declared.contents.Method.{Method}
+use Rattle.lib_model.specs.declared.param_types.Param.{Param}
+use Rattle.vtable_layout.specs.Slots.{Slot}
 use Rattle.prototype_lowering.specs.Directory.{number}
+use Rattle.prototype_lowering.specs.Lowering.{iface_of, method_of, param_of}
 
 -- the number of each interface in a directory, by its number in the scope
 abbrev pub IsNumberingOf : List ℕ → List ℕ → Type 0
 IsNumberingOf directory numbers =
     (k : ℕ) → k < length numbers → slice_index numbers k ≡ number directory k
+
+-- what is so in each directory that these numbers are of
+abbrev pub InEachDirectory : List ℕ → (List ℕ → Type 0) → Type 0
+InEachDirectory numbers P = (directory : List ℕ) → IsNumberingOf directory numbers → P directory
+
+-- what is lowered from a parameter, from parameters, from a slot and from slots
+abbrev pub IsParamOf : List ℕ → ScopeParam → Param → Type 0
+IsParamOf numbers p lowered = InEachDirectory numbers (λ d. lowered ≡ param_of d p)
+
+abbrev pub AreParamsOf : List ℕ → List ScopeParam → List Param → Type 0
+AreParamsOf numbers ps lowered = InEachDirectory numbers (λ d. lowered ≡ map (param_of d) ps)
+
+abbrev pub IsMethodOf : List ℕ → Slot → Method → Type 0
+IsMethodOf numbers s lowered = InEachDirectory numbers (λ d. lowered ≡ method_of d s)
+
+abbrev pub AreMethodsOf : List ℕ → List Slot → List Method → Type 0
+AreMethodsOf numbers ss lowered = InEachDirectory numbers (λ d. lowered ≡ map (method_of d) ss)
+
+-- methods, and those of a member behind them
+abbrev pub GainsMethodsOf : List ℕ → List Slot → List Method → List Method → Type 0
+GainsMethodsOf numbers ss before after =
+    InEachDirectory numbers (λ d. after ≡ before ++ map (method_of d) ss)
+
+-- the interfaces of these numbers
+abbrev pub AreIfacesAt : List ℕ → List ScopeIface → List ℕ → List Iface → Type 0
+AreIfacesAt numbers ifaces order lowered =
+    InEachDirectory numbers (λ d. lowered ≡ map (iface_of d) (filter_map (slice_get ifaces) order))
 
 -- a type whose interface is one of so many
 abbrev pub IsKnown : ℕ → Meant → Type 0

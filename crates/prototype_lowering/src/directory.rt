@@ -22,10 +22,7 @@ fn key_of(iface: &ScopeIface) -> (&[u8], &[u8])
 }
 
 /// The numbers of a map, in the order of its keys.
-fn in_key_order(
-    alloc: Global,
-    map: &BTreeMap<(&[u8], &[u8]), u32>,
-) -> Result<List<u32>, Memory>
+fn in_key_order(alloc: Global, map: &BTreeMap<(&[u8], &[u8]), u32>) -> Result<List<u32>, Memory>
     ensures { IfOk result (λ order. order ≡ values map.now) }
 {
     let mut order = List::new(alloc);

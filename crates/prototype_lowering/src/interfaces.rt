@@ -4,7 +4,7 @@ ghost use Rattle.std.specs.Prelude.{◌≡◌, ◌<◌, ℕ, List, All, IfOk, If
 ghost use Rattle.std.specs.List.{filter_map};
 ghost use Rattle.prototype_lowering.specs.Directory as directory;
 ghost use Rattle.prototype_lowering.specs.Lowering as lowering;
-ghost use Rattle.prototype_lowering.specs.Numbering.{IsNumberingOf, IsSayableIface};
+ghost use Rattle.prototype_lowering.specs.Numbering.{AreIfacesAt, InEachDirectory, IsSayableIface};
 
 use crate::members::{lower_constants, lower_methods};
 use crate::param_types::number_of;
@@ -16,7 +16,7 @@ use xp_base::{Bytes, List, Memory};
 /// The number of a parent in the typelib, 0 where there is none.
 fn parent_number(numbers: &[u16], parent: &Option<u32>) -> u16
     requires { IfSome parent.now (λ k. k < length numbers.now) }
-    ensures { (d : List ℕ) → IsNumberingOf d numbers.now → result ≡ directory.parent_number d parent.now }
+    ensures { InEachDirectory numbers.now (λ d. result ≡ directory.parent_number d parent.now) }
 {
     match parent {
         Some(k) => number_of(numbers, *k),
@@ -34,7 +34,7 @@ pub(crate) fn iid_of(iface: &ScopeIface) -> [u8; 16]
 /// What a defined interface consists of.
 fn lower_body(alloc: Global, numbers: &[u16], iface: &ScopeIface) -> Result<Body, Memory>
     requires { IsSayableIface (length numbers.now) iface.now }
-    ensures { IfOk result (λ b. (d : List ℕ) → IsNumberingOf d numbers.now → b ≡ lowering.body_of d iface.now) }
+    ensures { IfOk result (λ b. InEachDirectory numbers.now (λ d. b ≡ lowering.body_of d iface.now)) }
 {
     let members = iface.members.as_slice();
     Ok(Body {
@@ -48,15 +48,25 @@ fn lower_body(alloc: Global, numbers: &[u16], iface: &ScopeIface) -> Result<Body
 /// An interface.
 fn lower_iface(alloc: Global, numbers: &[u16], iface: &ScopeIface) -> Result<Iface, Memory>
     requires { IsSayableIface (length numbers.now) iface.now }
-    ensures { IfOk result (λ f. (d : List ℕ) → IsNumberingOf d numbers.now → f ≡ lowering.iface_of d iface.now) }
+    ensures { IfOk result (λ f. InEachDirectory numbers.now (λ d. f ≡ lowering.iface_of d iface.now)) }
 {
     let name = Bytes::copy(alloc, iface.name.as_slice())?;
     let iid = iid_of(iface);
     if !iface.defined {
-        return Ok(Iface { name, namespace: None, iid, body: None });
+        return Ok(Iface {
+            name,
+            namespace: None,
+            iid,
+            body: None,
+        });
     }
     let body = Some(lower_body(alloc, numbers, iface)?);
-    Ok(Iface { name, namespace: None, iid, body })
+    Ok(Iface {
+        name,
+        namespace: None,
+        iid,
+        body,
+    })
 }
 
 /// The interfaces of a library, in the order of its directory.
@@ -67,7 +77,7 @@ pub(crate) fn lower_ifaces(
     ifaces: &List<ScopeIface>,
 ) -> Result<List<Iface>, Memory>
     requires { All (IsSayableIface (length numbers.now)) ifaces.now }
-    ensures { IfOk result (λ lowered. (d : List ℕ) → IsNumberingOf d numbers.now → lowered ≡ map (lowering.iface_of d) (filter_map (slice_get ifaces.now) order.now)) }
+    ensures { IfOk result (AreIfacesAt numbers.now ifaces.now order.now) }
 {
     let mut lowered = List::new(alloc);
     for number in order {

@@ -7,7 +7,9 @@
 mod directory;
 mod interfaces;
 pub mod laws;
+mod limits;
 mod lower_error;
+mod lowering;
 mod marks;
 mod members;
 mod numbering;
@@ -15,3 +17,4 @@ mod param_flags;
 mod param_types;
 
 pub use lower_error::LowerError;
+pub use lowering::lower;

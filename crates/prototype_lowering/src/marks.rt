@@ -2,6 +2,7 @@
 
 ghost use Rattle.std.specs.Prelude.{◌≡◌};
 ghost use Rattle.prototype_lowering.specs.Lowering as lowering;
+ghost use Rattle.prototype_lowering.specs.Marked.{flags_with};
 
 use crate::param_flags::bit;
 use call_model::MemberKind;
@@ -33,7 +34,7 @@ fn is_setter(kind: MemberKind) -> bool
 
 /// The flags of a method.
 pub(crate) fn method_flags(kind: MemberKind, marks: Marks) -> MethodFlags
-    ensures { result ≡ record { bits = lowering.method_flags (lowering.is_getter kind) (lowering.is_setter kind) marks.notxpcom marks.hidden marks.argc marks.context } }
+    ensures { result.bits ≡ flags_with kind marks }
 {
     MethodFlags {
         bits: bit(MethodFlags::GETTER.bits, is_getter(kind))

@@ -3,8 +3,10 @@
 ghost use Rattle.std.specs.Prelude.{◌≡◌, ℕ, List, [], ◌∷◌, ◌++◌, false, All, Some, IfOk, IfSome, OnOk, length, map};
 ghost use Rattle.std.specs.List.{flat_map};
 ghost use Rattle.prototype_lowering.specs.Lowering as lowering;
-ghost use Rattle.prototype_lowering.specs.Numbering.{IsKnown, IsNumberingOf, IsSayable, IsSayableBody};
+ghost use Rattle.prototype_lowering.specs.Numbering.{AreMethodsOf, AreParamsOf, GainsMethodsOf, IsKnown, IsMethodOf, IsParamOf, IsSayable, IsSayableBody};
+ghost use Rattle.prototype_lowering.specs.Marked.{flags_with};
 ghost use Rattle.vtable_layout.specs.Slots as slots;
+ghost use Rattle.vtable_layout.specs.Slots.{slots_of_member};
 
 use crate::marks::{Marks, method_flags};
 use crate::param_flags::{flags_by, flags_of, is_class};
@@ -19,7 +21,7 @@ use xp_base::{Bytes, Dir, List, Memory};
 #[tactic(auto, using(crate::proofs::LoweredLists::lone_types))]
 fn given_param(numbers: &[u16], ty: &Meant) -> Param
     requires { IsKnown (length numbers.now) ty.now }
-    ensures { (d : List ℕ) → IsNumberingOf d numbers.now → result ≡ lowering.param_of d (slots.given_param ty.now) }
+    ensures { IsParamOf numbers.now (slots.given_param ty.now) result }
 {
     Param {
         flags: flags_by(Dir::Outward, is_class(ty), true, false, false),
@@ -31,7 +33,7 @@ fn given_param(numbers: &[u16], ty: &Meant) -> Param
 #[tactic(auto, using(crate::proofs::LoweredLists::lone_types))]
 fn value_param(numbers: &[u16], ty: &Meant) -> Param
     requires { IsKnown (length numbers.now) ty.now }
-    ensures { (d name : List ℕ) → IsNumberingOf d numbers.now → result ≡ lowering.param_of d (slots.value_param name ty.now) }
+    ensures { (name : List ℕ) → IsParamOf numbers.now (slots.value_param name ty.now) result }
 {
     Param {
         flags: flags_by(Dir::Inward, is_class(ty), false, false, false),
@@ -46,7 +48,7 @@ fn written_params(
     params: &[ScopeParam],
 ) -> Result<List<Param>, Memory>
     requires { All (IsSayable (length numbers.now)) params.now }
-    ensures { IfOk result (λ lowered. (d : List ℕ) → IsNumberingOf d numbers.now → lowered ≡ map (lowering.param_of d) params.now) }
+    ensures { IfOk result (AreParamsOf numbers.now params.now) }
 {
     let mut lowered = List::new(alloc);
     for param in params {
@@ -68,7 +70,7 @@ fn method_params(
 ) -> Result<List<Param>, Memory>
     requires sayable { All (IsSayable (length numbers.now)) params.now }
     requires known { IfSome returns.now (IsKnown (length numbers.now)) }
-    ensures { IfOk result (λ lowered. (d : List ℕ) → IsNumberingOf d numbers.now → lowered ≡ map (lowering.param_of d) (params.now ++ slots.given notxpcom returns.now)) }
+    ensures { IfOk result (AreParamsOf numbers.now (params.now ++ slots.given notxpcom returns.now)) }
 {
     let mut lowered = written_params(alloc, numbers, params)?;
     if notxpcom {
@@ -88,7 +90,7 @@ fn lower_slot(
     marks: Marks,
     params: List<Param>,
 ) -> Result<Method, Memory>
-    ensures { IfOk result (λ m. m ≡ record { name = name.now; flags = record { bits = lowering.method_flags (lowering.is_getter kind) (lowering.is_setter kind) marks.notxpcom marks.hidden marks.argc marks.context }; params = params }) }
+    ensures { IfOk result (λ m. m ≡ record { name = name.now; flags = record { bits = flags_with kind marks }; params = params }) }
 {
     Ok(Method {
         name: Bytes::copy(alloc, name.as_slice())?,
@@ -107,7 +109,7 @@ fn lower_getter(
 ) -> Result<Method, Memory>
     requires known { IsKnown (length numbers.now) ty.now }
     requires plain { marks.argc ≡ false }
-    ensures { IfOk result (λ m. (d : List ℕ) → IsNumberingOf d numbers.now → m ≡ lowering.method_of d (slots.getter name.now marks.hidden marks.notxpcom marks.context ty.now)) }
+    ensures { IfOk result (IsMethodOf numbers.now (slots.getter name.now marks.hidden marks.notxpcom marks.context ty.now)) }
 {
     let mut params = List::new(alloc);
     if !marks.notxpcom {
@@ -126,7 +128,7 @@ fn lower_setter(
 ) -> Result<Method, Memory>
     requires known { IsKnown (length numbers.now) ty.now }
     requires plain { marks.argc ≡ false }
-    ensures { IfOk result (λ m. (d : List ℕ) → IsNumberingOf d numbers.now → m ≡ lowering.method_of d (slots.setter name.now marks.hidden marks.notxpcom marks.context ty.now)) }
+    ensures { IfOk result (IsMethodOf numbers.now (slots.setter name.now marks.hidden marks.notxpcom marks.context ty.now)) }
 {
     let mut params = List::new(alloc);
     params.push(value_param(numbers, ty))?;
@@ -141,20 +143,43 @@ fn push_methods(
     member: &ScopeMember,
 ) -> Result<(), Memory>
     requires { IsSayableBody (length numbers.now) member.now.body }
-    ensures { OnOk result ((d : List ℕ) → IsNumberingOf d numbers.now → methods.new ≡ methods.old ++ map (lowering.method_of d) (slots.slots_of_member member.now)) }
+    ensures { OnOk result (GainsMethodsOf numbers.now (slots_of_member member.now) methods.old methods.new) }
 {
     let name = &member.name;
     match &member.body {
         ScopeBody::Constant { .. } => {}
-        ScopeBody::Attribute { hidden, notxpcom, context, readonly, ty } => {
-            let marks = Marks { hidden: *hidden, notxpcom: *notxpcom, argc: false, context: *context };
+        ScopeBody::Attribute {
+            hidden,
+            notxpcom,
+            context,
+            readonly,
+            ty,
+        } => {
+            let marks = Marks {
+                hidden: *hidden,
+                notxpcom: *notxpcom,
+                argc: false,
+                context: *context,
+            };
             methods.push(lower_getter(alloc, numbers, name, marks, ty)?)?;
             if !*readonly {
                 methods.push(lower_setter(alloc, numbers, name, marks, ty)?)?;
             }
         }
-        ScopeBody::Method { hidden, notxpcom, argc, context, result, params } => {
-            let marks = Marks { hidden: *hidden, notxpcom: *notxpcom, argc: *argc, context: *context };
+        ScopeBody::Method {
+            hidden,
+            notxpcom,
+            argc,
+            context,
+            result,
+            params,
+        } => {
+            let marks = Marks {
+                hidden: *hidden,
+                notxpcom: *notxpcom,
+                argc: *argc,
+                context: *context,
+            };
             let params = method_params(alloc, numbers, params.as_slice(), *notxpcom, result)?;
             methods.push(lower_slot(alloc, name, MemberKind::Plain, marks, params)?)?;
         }
@@ -169,7 +194,7 @@ pub(crate) fn lower_methods(
     members: &[ScopeMember],
 ) -> Result<List<Method>, Memory>
     requires { All (λ m. IsSayableBody (length numbers.now) m.body) members.now }
-    ensures { IfOk result (λ methods. (d : List ℕ) → IsNumberingOf d numbers.now → methods ≡ map (lowering.method_of d) (flat_map slots.slots_of_member members.now)) }
+    ensures { IfOk result (AreMethodsOf numbers.now (flat_map slots_of_member members.now)) }
 {
     let mut methods = List::new(alloc);
     for member in members {

@@ -55,8 +55,14 @@ fn is_dipper(dir: Dir, class: bool) -> bool
 }
 
 /// The flags of a parameter of this direction, whose type is a string class or not.
-pub(crate) fn flags_by(dir: Dir, class: bool, retval: bool, shared: bool, optional: bool) -> ParamFlags
-    ensures { result ≡ record { bits = lowering.param_flags (lowering.goes_in dir class) (lowering.goes_out dir class) retval shared (lowering.is_dipper dir class) optional } }
+pub(crate) fn flags_by(
+    dir: Dir,
+    class: bool,
+    retval: bool,
+    shared: bool,
+    optional: bool,
+) -> ParamFlags
+    ensures { result ≡ record { bits = lowering.flags_by dir class retval shared optional } }
 {
     ParamFlags {
         bits: bit(ParamFlags::IN.bits, goes_in(dir, class))

@@ -4,7 +4,7 @@ ghost use Rattle.std.specs.Prelude.{◌≡◌, ℕ, List, ◌<◌, length, IfSom
 ghost use Rattle.std.specs.Option.{unwrap_or};
 ghost use Rattle.prototype_lowering.specs.Directory.{number};
 ghost use Rattle.prototype_lowering.specs.Lowering as lowering;
-ghost use Rattle.prototype_lowering.specs.Numbering.{IsKnown, IsNumberingOf, IsSayable, IsSmall};
+ghost use Rattle.prototype_lowering.specs.Numbering.{IsKnown, InEachDirectory, IsSayable, IsSmall};
 
 use idl_meaning::{Meant, ScopeParam};
 use lib_model::{Elem, XType, tags};
@@ -12,7 +12,7 @@ use lib_model::{Elem, XType, tags};
 /// The number of an interface in the typelib.
 pub(crate) fn number_of(numbers: &[u16], k: u32) -> u16
     requires { k < length numbers.now }
-    ensures { (d : List ℕ) → IsNumberingOf d numbers.now → result ≡ number d k }
+    ensures { InEachDirectory numbers.now (λ d. result ≡ number d k) }
 {
     numbers[k as usize]
 }
@@ -32,7 +32,7 @@ fn param_number(named: &Option<u32>, other: u8) -> u8
 fn iface_elem(numbers: &[u16], k: u32, iid: &Option<u32>) -> Elem
     requires known { k < length numbers.now }
     requires small { IsSmall iid.now }
-    ensures { (d : List ℕ) → IsNumberingOf d numbers.now → result ≡ lowering.iface_elem d k iid.now }
+    ensures { InEachDirectory numbers.now (λ d. result ≡ lowering.iface_elem d k iid.now) }
 {
     match iid {
         Some(param) => Elem::IidIs(*param as u8),
@@ -55,7 +55,7 @@ fn native_elem(iid: &Option<u32>) -> Elem
 pub(crate) fn elem_of(numbers: &[u16], ty: &Meant, iid: &Option<u32>) -> Elem
     requires known { IsKnown (length numbers.now) ty.now }
     requires small { IsSmall iid.now }
-    ensures { (d : List ℕ) → IsNumberingOf d numbers.now → result ≡ lowering.elem_of d ty.now iid.now }
+    ensures { InEachDirectory numbers.now (λ d. result ≡ lowering.elem_of d ty.now iid.now) }
 {
     match ty {
         Meant::Basic(tag) | Meant::StringClass(tag) => Elem::Plain(*tag),
@@ -100,7 +100,7 @@ fn sized_type(tag: u8, size: &Option<u32>, len: u8) -> XType
 /// The type of a parameter.
 pub(crate) fn type_of(numbers: &[u16], param: &ScopeParam) -> XType
     requires { IsSayable (length numbers.now) param.now }
-    ensures { (d : List ℕ) → IsNumberingOf d numbers.now → result ≡ lowering.type_of d param.now }
+    ensures { InEachDirectory numbers.now (λ d. result ≡ lowering.type_of d param.now) }
 {
     let size = param_number(&param.size, 0);
     let len = param_number(&param.length, size);

@@ -1,4 +1,4 @@
-use Rattle.std.proofs.Common.{◌≡◌, [], ap, sym, ◌∙◌, true, false}
+use Rattle.std.proofs.Common.{[], ap, sym, ◌∙◌, true, false}
 use Rattle.xp_base.specs.declared.kinds.Dir.TheVariants.{Outward}
 use Rattle.prototype_lowering.specs.Lowering.{alone, goes_in, goes_out, is_dipper, param_flags}
 use Rattle.prototype_lowering.proofs.LoweredLists.{lone_types}
