@@ -10,7 +10,7 @@ mod spellings;
 mod texts;
 
 pub use error::ScriptError;
-pub use read::{MAX_SCRIPT, one_reading, read_front, read_script};
+pub use read::{one_reading, read_front, read_script};
 pub use script::{
     Act, ArgWord, EnterItem, Fill, Front, Line, MemberRef, MemberWord, ReplyItem, Script, Target,
     Term, ValueWord,

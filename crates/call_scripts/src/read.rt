@@ -15,9 +15,6 @@ use crate::texts::{is_plain, joined, next_line, words};
 use std::alloc::Global;
 use xp_base::{List, MAX_TEXT, Memory};
 
-/// The longest script, in bytes.
-pub const MAX_SCRIPT: usize = MAX_TEXT;
-
 /// The script that the bytes spell, which is at most one.
 ///
 /// Lines end in LF, and one CR directly before it is dropped; the last line may lack its LF. A line has only tabs and

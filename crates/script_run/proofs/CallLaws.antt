@@ -11,7 +11,8 @@ use Rattle.call_model.specs.declared.prototypes.Status.{Status}
 use Rattle.call_model.specs.declared.prototypes.Status.TheVariants.{Callable}
 use Rattle.call_model.specs.declared.tables.Table.{Table}
 use Rattle.call_model.specs.declared.tables.TableSlot.{TableSlot}
-use Rattle.call_model.specs.Tables.{descends_from, descends_within}
+use Rattle.call_model.specs.Tables.{descends_from}
+use Rattle.call_model.proofs.Lineages.{descends-by-parents}
 use Rattle.call_scripts.specs.declared.script.ArgWord.{ArgWord}
 use Rattle.call_scripts.specs.declared.script.MemberRef.{MemberRef}
 use Rattle.call_scripts.specs.declared.script.Target.{Target}
@@ -112,10 +113,6 @@ refuses_same errors.Memory part whole same is = tt
 
 -- ---- calls
 
-itself : (table : Table) (number : ℕ) → descends_from table number number ≡ true
-unfolding descends_within
-itself table number = search (arith, eq-eqb)
-
 call_given : (table : Table) (conv : Conv) (state : State) (target : Target) (member : MemberRef) (args : List ArgWord) (p : Placed) (named : Named)
     → or_else (target_of conv state target) refusal.NoName ≡ Ok p → member_named table member ≡ Ok named → named.entry.status ≡ Callable → is_object p.block.content ≡ true → descends_from table p.block.iface named.iface ≡ true
     → call_of table conv state target member args ≡ (arguments_of conv named.entry.proto args then λ values. Ok (record { this = p.at; slot = named.slot; proto = named.entry.proto; values = values }))
@@ -139,5 +136,5 @@ pub call_found : (table : Table) (conv : Conv) (state : State) (target : Target)
 call_found table conv state target member args this p found named target_is at named_is is =
     let status : status_of found.method ≡ Callable = status_thin found.method is.thin in
     let proto : named.entry.proto ≡ proto_of found.method = ap (λ (e : TableSlot). e.proto) is.entry ∙ ap (λ (s : Status). proto_if s found.method) status in
-    call_given table conv state target member args p named target_is named_is (ap (λ (e : TableSlot). e.status) is.entry ∙ status) at.object ((λ k. descends_from table (at.iface k) (is.iface k)) ∙ itself table 1)
+    call_given table conv state target member args p named target_is named_is (ap (λ (e : TableSlot). e.status) is.entry ∙ status) at.object ((λ k. descends_from table (at.iface k) (is.iface k)) ∙ (descends-by-parents table 1).itself (omega arith))
     ∙ (λ k. arguments_of conv (proto k) args then λ values. Ok (record { this = sym at.at k; slot = is.slot k; proto = proto k; values = values }))

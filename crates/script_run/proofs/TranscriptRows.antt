@@ -3,7 +3,7 @@ use Rattle.std.proofs.Common.{◌≡◌, [], ◌∷◌, Some, None, neg_ℤ, pos
 use Rattle.std.specs.Prelude.{codes}
 use Rattle.std.specs.Fmt.{digits}
 use Rattle.call_model.specs.declared.places.Conv.TheVariants.{SysV64}
-use Rattle.call_model.specs.Tables.{descends_within, member_within, slots_within}
+use Rattle.call_model.specs.Tables.{lineage_within, member_within, slots_within}
 use Rattle.call_scripts.specs.declared.script.Act.TheVariants as acts
 use Rattle.call_scripts.specs.declared.script.ArgWord.TheVariants as args
 use Rattle.call_scripts.specs.declared.script.Line.{Line}
@@ -45,5 +45,5 @@ call_line = record {
 }
 
 a_call : static (table_of library) SysV64 (object_line ∷ call_line ∷ []) ≡ codes "> object o nsIA\nat 107d0\n> call o nsIA.f -1\nslot 0 entry 1000\ngpr 107d0 ffffffffffffffff 0 0 0 0\nfpr 0 0 0 0 0 0 0 0\nstack -\ngot -1\nresult 80004001\n"
-unfolding arguments_of call_of call_text descends_within digits frame_text low_bytes member_named member_within new_object proto_of slots_within static step table_of
+unfolding arguments_of call_of call_text digits frame_text lineage_within low_bytes member_named member_within new_object proto_of slots_within static step table_of
 a_call = refl

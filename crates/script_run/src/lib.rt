@@ -12,8 +12,6 @@ mod reading;
 mod running;
 mod stages;
 mod step_error;
-#[cfg(test)]
-mod tests;
 
 pub use reading::read_thin;
 pub use running::run_thin;

@@ -6,13 +6,14 @@ ghost use Rattle.script_run.specs.ThinScripts.{BlamesThin, IsFirstOther, IsThinA
 
 use call_scripts::{Act, ArgWord, Front, Line, Script, ScriptError, Target, ValueWord, read_front};
 use std::alloc::Global;
+use xp_base::MAX_TEXT;
 
 /// The thin script that the bytes spell, which is at most one: its lines make objects, or call one with numbers.
 ///
 /// Lines are those of `call_scripts::read_script`. `Fault` names the first line that has no reading or is no thin one; where
 /// there is none, it never comes. `Memory` is free.
 pub fn read_thin(alloc: Global, bytes: &[u8]) -> Result<Script, ScriptError>
-    requires { length bytes.now ≤ 1048576 }
+    requires { length bytes.now ≤ MAX_TEXT }
     ensures ok { IfOk result (λ script. IsThinScript bytes.now script) }
     ensures only { (script : spelled.Script) → IsThinScript bytes.now script → (result ≡ Ok script) ⊎ (result ≡ Err ScriptError.Memory) }
     ensures err { IfErr result (BlamesThin bytes.now) }

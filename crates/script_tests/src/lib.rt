@@ -1,6 +1,10 @@
-//! Tests of what no clause of `call_scripts` says: which tree and which echo each form of a line has,
-//! and that the calls succeed.
+//! Tests of what no clause of `call_scripts`, `transcript_text` and `script_run` says: which trees
+//! and echoes the forms of a line have, the text of a transcript, and that the calls succeed.
 #![tactic(auto)]
 
 #[cfg(test)]
+mod runs;
+#[cfg(test)]
 mod scripts;
+#[cfg(test)]
+mod transcripts;

@@ -4,8 +4,6 @@
 mod frames;
 mod lines;
 mod refusals;
-#[cfg(test)]
-mod tests;
 mod values;
 
 pub use frames::frame_lines;

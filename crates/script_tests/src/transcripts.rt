@@ -1,10 +1,12 @@
-use crate::{
-    Refusal, at_line, echo_line, frame_lines, got_line, refused_line, result_line, slot_line,
-    value_word,
-};
+//! The words and the lines of a transcript.
+
 use call_model::{CType, Conv};
 use object_memory::{Machine, Width};
 use std::test::Fail;
+use transcript_text::{
+    Refusal, at_line, echo_line, frame_lines, got_line, refused_line, result_line, slot_line,
+    value_word,
+};
 use xp_base::Bytes;
 
 #[test]
@@ -17,10 +19,8 @@ fn values_are_numbers_of_their_types(rt: HostRuntime) -> Result<(), Fail> {
         (CType::Ptr, 0x107d0, "0x107d0"),
         (CType::F32, 0, "0x0"),
     ] {
-        assert_eq!(rt;
-            value_word(rt.alloc(), ty, pattern)?.as_slice(),
-            word.as_bytes()
-        );
+        let text = value_word(rt.alloc(), ty, pattern)?;
+        assert_eq!(rt; text.as_slice(), word.as_bytes(), "for {word}");
     }
     Ok(())
 }
@@ -40,33 +40,40 @@ fn lines_are_worded(rt: HostRuntime) -> Result<(), Fail> {
         (at_line(alloc, 0x107d0)?, "at 107d0\n"),
         (echo_line(alloc, b"cells 1")?, "> cells 1\n"),
     ] {
-        assert_eq!(rt; line.as_slice(), text.as_bytes());
+        assert_eq!(rt; line.as_slice(), text.as_bytes(), "for {text}");
     }
     Ok(())
 }
 
+const FULL_FRAME: &str = "\
+gpr 107d0 ffffffffffffffff 0 0 0 0
+fpr 0 0 0 0 0 0 0 0
+stack 06000000000000000700000000000000
+";
+
+const EMPTY_FRAME: &str = "\
+gpr -
+fpr -
+stack -
+";
+
 #[test]
 fn a_frame_has_three_lines(rt: HostRuntime) -> Result<(), Fail> {
-    let mut machine = Machine::new(rt.alloc(), Conv::SysV64)?;
-    let frame = machine.frame_mut();
+    let alloc = rt.alloc();
+    let mut full = Machine::new(alloc, Conv::SysV64)?;
+    let frame = full.frame_mut();
     frame.clear(16);
     frame.set_gpr(0, 0x107d0);
     frame.set_gpr(1, u64::MAX);
     frame.set_stack(0, Width::W8, 6);
     frame.set_stack(8, Width::W8, 7);
-    assert_eq!(rt;
-        frame_lines(rt.alloc(), Conv::SysV64, frame)?.as_slice(),
-        b"gpr 107d0 ffffffffffffffff 0 0 0 0\nfpr 0 0 0 0 0 0 0 0\nstack 06000000000000000700000000000000\n".as_slice()
-    );
-    Ok(())
-}
-
-#[test]
-fn an_empty_frame_has_dashes(rt: HostRuntime) -> Result<(), Fail> {
-    let machine = Machine::new(rt.alloc(), Conv::I386)?;
-    assert_eq!(rt;
-        frame_lines(rt.alloc(), Conv::I386, machine.frame())?.as_slice(),
-        b"gpr -\nfpr -\nstack -\n".as_slice()
-    );
+    let empty = Machine::new(alloc, Conv::I386)?;
+    for (conv, frame, lines) in [
+        (Conv::SysV64, full.frame(), FULL_FRAME),
+        (Conv::I386, empty.frame(), EMPTY_FRAME),
+    ] {
+        let text = frame_lines(alloc, conv, frame)?;
+        assert_eq!(rt; text.as_slice(), lines.as_bytes(), "for {lines}");
+    }
     Ok(())
 }
