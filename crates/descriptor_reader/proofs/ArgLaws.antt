@@ -1,13 +1,11 @@
 -- How an iterator goes through the arguments of a method's prototype.
-use Rattle.std.proofs.Common.{◌≡◌, ◌≢◌, ℕ, zero, suc, ◌+◌, ◌<◌, List, [], ◌∷◌, length, Option, Some, None, arith, refl, sym, ap, ◌∙◌, drop, inl, inr, get_or}
+use Rattle.std.proofs.Common.{◌≡◌, ℕ, zero, suc, ◌+◌, ◌<◌, List, [], ◌∷◌, length, Some, None, arith, refl, sym, ap, ◌∙◌, drop, inl, inr, get_or}
 use Rattle.std.specs.Prelude.{option_map, slice_get}
 use Rattle.std.proofs.lemmas.Bool.{cases_lt}
 use Rattle.std.proofs.lemmas.Option.{slice_get-get_or, slice_get_past}
-use Rattle.call_model.specs.declared.prototypes.ProtoArg.{ProtoArg}
 use Rattle.call_model.specs.declared.prototypes.Status.{Status}
 use Rattle.call_model.specs.declared.prototypes.Status.TheVariants.{Callable, Hidden, NotXpcom, Opaque}
 use Rattle.lib_model.specs.declared.contents.Method.{Method}
-use Rattle.lib_model.specs.declared.param_types.Param.{Param}
 use Rattle.lib_model.specs.Table.{arg_of, context_arg, proto_if, proto_of}
 use Rattle.typelib_faults.specs.declared.cursor.Cursor.{Cursor}
 use Rattle.typelib_faults.specs.Faults.{form_fault, params_cursor}

@@ -5,17 +5,17 @@ use Rattle.lib_model.specs.Denotes.{Denotes, DescriptorStands, byte_at, half_at,
 use Rattle.lib_model.specs.Valid.{IsBody, body_items, body_of, iface_bits}
 use Rattle.typelib_faults.specs.declared.cursor.Cursor.{Cursor}
 use Rattle.typelib_faults.specs.Bytes.{AreBytes}
-use Rattle.typelib_faults.specs.Faults.{args_fault, body_fault, constant_fault, constant_next, constants_cursor, constants_reach, descriptor_cursor, descriptor_fault, directory_cursor, entry_fault, entry_next, item_fault, method_fault, method_next, methods_cursor, methods_reach, name_fault, namespace_fault, param_fault, param_next, params_cursor, parent_fault, past, result_fault}
+use Rattle.typelib_faults.specs.Faults.{body_fault, constant_fault, constant_next, constants_cursor, constants_reach, descriptor_cursor, descriptor_fault, directory_cursor, entry_fault, entry_next, item_fault, method_fault, method_next, methods_cursor, methods_reach, name_fault, namespace_fault, parent_fault, past}
 use Rattle.typelib_faults.specs.Laws.{IsFine}
-use Rattle.typelib_faults.specs.Places.{body_at, constant_at, constant_end, constants_end, count_of, descriptor_at, directory_of, entries_of, entry_end, library_of, method_at, method_end, methods_end, param_count_at, param_end, params_at, params_end}
+use Rattle.typelib_faults.specs.Places.{body_at, constant_at, constant_end, constants_end, count_of, descriptor_at, directory_of, entries_of, entry_end, library_of, method_at, method_end, methods_end}
 use Rattle.typelib_faults.specs.Walk.{reach, values, walk}
 use Rattle.typelib_faults.proofs.ChainLaws.{known_body}
 use Rattle.typelib_faults.proofs.EntryLaws.{directory_resolved, directory_resolves, reach_entry}
-use Rattle.typelib_faults.proofs.IfaceLaws.{AreResolved, constants_place, descriptor_fine, descriptor_items, descriptor_sound, methods_place}
+use Rattle.typelib_faults.proofs.IfaceLaws.{AreResolved, constants_place, descriptor_fine, descriptor_items, descriptor_sound}
 use Rattle.typelib_faults.proofs.MemberLaws.{item_room}
 use Rattle.typelib_faults.proofs.TypeLaws.{past_inside}
 use Rattle.typelib_faults.proofs.TypelibLaws.{fine_denotes}
-use Rattle.typelib_faults.proofs.WalkFacts.{length_values, parts4, parts7, parts8, reach_place, walk_at}
+use Rattle.typelib_faults.proofs.WalkFacts.{parts4, parts7, reach_place, walk_at}
 use Rattle.descriptor_reader.specs.Views.{first_at}
 use Rattle.descriptor_reader.proofs.ViewLaws.{directory_known, library_long}
 

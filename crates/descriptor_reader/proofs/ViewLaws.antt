@@ -24,7 +24,7 @@ use Rattle.typelib_faults.specs.declared.cursor.Cursor.{Cursor}
 use Rattle.typelib_faults.specs.Bytes.{AreBytes}
 use Rattle.typelib_faults.specs.Faults.{body_fault, chain_fault, directory_cursor, entry_fault, entry_next, first_fault, header_fault, item_fault, method_fault, name_fault, namespace_fault}
 use Rattle.typelib_faults.specs.Laws.{IsFine}
-use Rattle.typelib_faults.specs.Places.{body_at, count_of, directory_of, entries_of, entry_at, entry_end, library_of, method_at, method_end, name_at}
+use Rattle.typelib_faults.specs.Places.{body_at, count_of, directory_of, entries_of, entry_at, entry_end, library_of, method_at, name_at}
 use Rattle.descriptor_reader.specs.Views.{entry_after, first_number, has_iid, in_slots, is_named, nth_iface, numbered}
 use Rattle.typelib_faults.specs.Walk.{reach, values}
 use Rattle.typelib_faults.proofs.ChainLaws.{known_body, long_chain, short_chain, slots_end, slots_on}

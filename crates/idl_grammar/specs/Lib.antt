@@ -7,3 +7,4 @@ pub mod Gives
 pub mod Places
 pub mod Texts
 pub mod Trees
+pub mod ClosedFiles

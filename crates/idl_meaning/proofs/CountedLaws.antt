@@ -13,7 +13,8 @@ use Rattle.idl_grammar.specs.declared.tree.MemberBody.TheVariants as member
 use Rattle.idl_grammar.specs.Texts.{IsLawfulFile}
 use Rattle.idl_grammar.specs.Trees.{IsItemBody, IsMemberBody}
 use Rattle.idl_grammar.proofs.TreeMade.{tree-made}
-use Rattle.idl_meaning.specs.Counted.{IsCountedMember, AreCountedMembers, IsCountedItem, AreCountedItems, AreCountedFiles, AreLawfulFiles}
+use Rattle.idl_grammar.specs.ClosedFiles.{AreLawfulFiles}
+use Rattle.idl_meaning.specs.Counted.{IsCountedMember, AreCountedMembers, IsCountedItem, AreCountedItems, AreCountedFiles}
 
 module _ (most : ℕ) (low : most < 2 ^ 32) where
   member-counted : (m : MemberBody) → IsMemberBody most m → IsCountedMember m

@@ -15,7 +15,7 @@ use Rattle.idl_grammar.proofs.TreeMade.{tree-made}
 use Rattle.idl_meaning.specs.declared.scope.ScopeBody.{ScopeBody}
 use Rattle.idl_meaning.specs.declared.scope.ScopeIface.{ScopeIface}
 use Rattle.idl_meaning.specs.declared.scope.ScopeMember.{ScopeMember}
-use Rattle.idl_meaning.specs.Counted.{AreLawfulFiles}
+use Rattle.idl_grammar.specs.ClosedFiles.{AreLawfulFiles}
 use Rattle.idl_meaning.specs.Meaning.{learns, Forward}
 use Rattle.idl_meaning.specs.Scopes.{Known, Inside, nothing_known, next_number, inside, inside_after, body_made, member_name, member_made, members_made, bare_iface, placed, after_forward, after_new, redeclares, after, after_items, after_files}
 use Rattle.idl_meaning.specs.Accepted.{IsNamed}

@@ -3,7 +3,7 @@ use Rattle.std.proofs.Common.{◌≡◌, ℕ, List, [], Some, sym, subst}
 use Rattle.std.specs.Prelude.{slice_get}
 use Rattle.idl_grammar.specs.declared.tree.ClosedFile.{ClosedFile}
 use Rattle.idl_meaning.specs.declared.scope.ScopeIface.{ScopeIface}
-use Rattle.idl_meaning.specs.Counted.{AreLawfulFiles}
+use Rattle.idl_grammar.specs.ClosedFiles.{AreLawfulFiles}
 use Rattle.idl_meaning.specs.Meaning.{Names}
 use Rattle.idl_meaning.specs.Scopes.{nothing_known, after_files, scope_of}
 use Rattle.idl_meaning.specs.Faults.{faults_of}

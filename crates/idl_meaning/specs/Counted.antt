@@ -1,6 +1,5 @@
 -- What has few enough parts to be numbered in 32 bits, as each file has that was read from tokens.
-use Rattle.std.specs.Prelude.{ℕ, ◌^◌, ◌<◌, All, List, [], ◌∷◌, length, sum_by}
-use Rattle.idl_grammar.specs.Texts.{IsLawfulFile}
+use Rattle.std.specs.Prelude.{ℕ, ◌^◌, ◌<◌, List, [], ◌∷◌, length}
 use Rattle.idl_grammar.specs.declared.tree.ClosedFile.{ClosedFile}
 use Rattle.idl_grammar.specs.declared.tree.Item.{Item}
 use Rattle.idl_grammar.specs.declared.tree.ItemBody.{ItemBody}
@@ -30,11 +29,3 @@ AreCountedItems (x ∷ more) = IsCountedItem x.body × AreCountedItems more
 abbrev pub AreCountedFiles : List ClosedFile → Type 0
 AreCountedFiles [] = Unit {0}
 AreCountedFiles (f ∷ more) = AreCountedItems f.file.items × AreCountedFiles more
-
--- how many items files have together
-abbrev pub items_of : List ClosedFile → ℕ
-items_of files = sum_by (λ (one : ClosedFile). length one.file.items) files
-
--- each of the files is one that a text can have
-abbrev pub AreLawfulFiles : List ClosedFile → Type 0
-AreLawfulFiles files = All (λ (one : ClosedFile). IsLawfulFile one.file) files

@@ -3,7 +3,8 @@
 ghost use Rattle.std.specs.Prelude.{◌≡◌, [], List};
 ghost use Rattle.idl_grammar.specs.declared.tree.ClosedFile.{ClosedFile};
 ghost use Rattle.idl_meaning.specs.Accepted.{IsAcceptedScope};
-ghost use Rattle.idl_meaning.specs.Counted.{AreCountedFiles, AreLawfulFiles};
+ghost use Rattle.idl_grammar.specs.ClosedFiles.{AreLawfulFiles};
+ghost use Rattle.idl_meaning.specs.Counted.{AreCountedFiles};
 ghost use Rattle.idl_meaning.specs.Faults.{faults_of};
 ghost use Rattle.idl_meaning.specs.Order.{Ascending, Before, HasEachFault};
 ghost use Rattle.idl_meaning.specs.Scopes.{scope_of};

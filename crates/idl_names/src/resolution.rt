@@ -3,7 +3,8 @@
 ghost use Rattle.std.specs.Prelude.{◌≡◌, ◌+◌, ◌<◌, ◌≤◌, ◌^◌, [], length, IfErr, IfOk, OnOk};
 ghost use Rattle.idl_meaning.specs.Scopes as scopes;
 ghost use Rattle.idl_meaning.specs.Faults as spec;
-ghost use Rattle.idl_meaning.specs.Counted.{AreCountedFiles, AreCountedItems, AreLawfulFiles, IsCountedItem, items_of};
+ghost use Rattle.idl_grammar.specs.ClosedFiles.{AreLawfulFiles, items_of};
+ghost use Rattle.idl_meaning.specs.Counted.{AreCountedFiles, AreCountedItems, IsCountedItem};
 ghost use Rattle.idl_meaning.specs.Accepted.{IsAcceptedScope};
 ghost use Rattle.idl_meaning.specs.Order.{HasNoFault, IsLeastFault};
 ghost use Rattle.idl_names.specs.States.{view};

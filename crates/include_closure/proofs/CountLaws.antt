@@ -9,7 +9,8 @@ use Rattle.idl_grammar.specs.Texts.{IsLawfulFile}
 use Rattle.include_closure.specs.declared.visited.Frame.{Frame}
 use Rattle.include_closure.specs.declared.visited.TheConstants.{MAX_TOGETHER}
 use Rattle.include_closure.specs.declared.visited.Visited.{Visited}
-use Rattle.include_closure.specs.Counts.{AreLawfulFiles, AreLawfulFrames, items_left, items_of, items_open}
+use Rattle.idl_grammar.specs.ClosedFiles.{AreLawfulFiles, items_of}
+use Rattle.include_closure.specs.Counts.{AreLawfulFrames, items_left, items_open}
 use Rattle.include_closure.specs.Steps.{IsOpened, on_top}
 use Rattle.include_closure.proofs.StepLaws.{passed}
 

@@ -3,7 +3,7 @@
 ghost use Rattle.std.specs.Prelude.{◌≡◌, ◌≤◌, ◌<◌, ◌+◌, ◌^◌, [], ◌∷◌, IfErr, IfOk, OnOk, Some, length};
 ghost use Rattle.xp_base.specs.Files.{Files};
 ghost use Rattle.include_closure.specs.Closure.{ClosureCause, HasOneClosure, IsClosure, IsFirstFault, IsGiven, StopsWith, Visits, Whole};
-ghost use Rattle.include_closure.specs.Counts.{AreLawfulFiles, items_of};
+ghost use Rattle.idl_grammar.specs.ClosedFiles.{AreLawfulFiles, items_of};
 ghost use Rattle.include_closure.specs.Steps.{on_top};
 
 use crate::begun::Begun;

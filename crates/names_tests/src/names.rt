@@ -1,5 +1,5 @@
 ghost use Rattle.std.specs.Prelude.{◌≤◌, ◌<◌, ◌^◌, ◌≡◌, length, IfOk};
-ghost use Rattle.idl_meaning.specs.Counted.{AreLawfulFiles, items_of};
+ghost use Rattle.idl_grammar.specs.ClosedFiles.{AreLawfulFiles, items_of};
 
 use idl_grammar::{ClosedFile, parse};
 use idl_lexer::{MAX_SOURCE, lex};

@@ -18,7 +18,7 @@ use Rattle.typelib_faults.proofs.MemberLaws.{item_room, method_items}
 use Rattle.typelib_faults.proofs.TypeLaws.{past_inside}
 use Rattle.typelib_faults.proofs.WalkFacts.{Left, faulty_none, orelse_none, parts3, parts6, parts8, reach_place, values_get, values_past, walk_at}
 use Rattle.typelib_check.specs.declared.parts.Params.{Params}
-use Rattle.typelib_check.specs.Parts.{AreFineParams, HasTags, params_of}
+use Rattle.typelib_check.specs.Parts.{AreFineParams, HasTags}
 
 -- ---- parameters
 

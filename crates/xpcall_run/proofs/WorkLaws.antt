@@ -25,7 +25,8 @@ use Rattle.xpcall_run.specs.declared.failures.Failure.{Failure}
 use Rattle.xpcall_run.specs.declared.failures.Failure.TheVariants.{Usage, CannotRead, CannotWrite, OutOfMemory, Refused}
 use Rattle.xpcall_run.specs.FaultText.{output_failure}
 use Rattle.xpcall_run.specs.Headline.{Asks, HasWritten, IsFirst, ToldRefused}
-use Rattle.xpcall_run.specs.Meaning.{Input, call_files, DenotesThin, HasThinLibrary, Refuses, RefusesScript, RefusesTypelib, Writes, WritesTypelib, command_input, file_input, idl_file, input_of, longest_text, longest_typelib, script_input}
+use Rattle.xp_base.specs.declared.limits.TheConstants.{MAX_TEXT, MAX_TYPELIB}
+use Rattle.xpcall_run.specs.Meaning.{Input, call_files, DenotesThin, HasThinLibrary, Refuses, RefusesScript, RefusesTypelib, Writes, WritesTypelib, command_input, file_input, idl_file, input_of, script_input}
 use Rattle.xpcall_run.proofs.InputLaws.{library_once}
 use Rattle.xpcall_run.specs.Needs.{FileKind, typelib, script, Needs, kind_of}
 use Rattle.xpcall_run.specs.Stops.{CommandRefused, CommandStops, CommandWrites, IsFile, Stops}
@@ -137,33 +138,33 @@ Found files name bytes = (told : Files) → files ≡ Some told → file_in told
 
 -- ---- the compile
 
-pub compile_writes : (files : Option Files) (name bytes text : List ℕ) → Found files name bytes → length bytes ≤ longest_text → WritesTypelib bytes text → CommandWrites files (Compile name) text
+pub compile_writes : (files : Option Files) (name bytes text : List ℕ) → Found files name bytes → length bytes ≤ MAX_TEXT → WritesTypelib bytes text → CommandWrites files (Compile name) text
 compile_writes files name bytes text found within writes =
-    λ told e. let P : Input → Type 0 = λ i. Writes i text in subst P (sym (within_input longest_text name bytes _ (idl_file name) (found told e) within)) writes
+    λ told e. let P : Input → Type 0 = λ i. Writes i text in subst P (sym (within_input MAX_TEXT name bytes _ (idl_file name) (found told e) within)) writes
 
 -- ---- the calls
 
-call_input : (files : Option Files) (m n x b : List ℕ) (told : Files) → files ≡ Some told → Found files m x → length x ≤ longest_typelib → Found files n b → length b ≤ longest_text → command_input (Some (Call m n)) told ≡ call_files m n x b
+call_input : (files : Option Files) (m n x b : List ℕ) (told : Files) → files ≡ Some told → Found files m x → length x ≤ MAX_TYPELIB → Found files n b → length b ≤ MAX_TEXT → command_input (Some (Call m n)) told ≡ call_files m n x b
 call_input files m n x b told e found_x within_x found_b within_b =
-    within_input longest_typelib m x _ (script_input m n told) (found_x told e) within_x
-    ∙ within_input longest_text n b _ (call_files m n x) (found_b told e) within_b
+    within_input MAX_TYPELIB m x _ (script_input m n told) (found_x told e) within_x
+    ∙ within_input MAX_TEXT n b _ (call_files m n x) (found_b told e) within_b
 
-call_refused : (files : Option Files) (m n x b : List ℕ) (failure : Failure) → Found files m x → length x ≤ longest_typelib → Found files n b → length b ≤ longest_text → Refuses (call_files m n x b) failure → CommandRefused files (Call m n) failure
+call_refused : (files : Option Files) (m n x b : List ℕ) (failure : Failure) → Found files m x → length x ≤ MAX_TYPELIB → Found files n b → length b ≤ MAX_TEXT → Refuses (call_files m n x b) failure → CommandRefused files (Call m n) failure
 call_refused files m n x b failure found_x within_x found_b within_b refuses =
     λ told e. let P : Input → Type 0 = λ i. Refuses i failure in subst P (sym (call_input files m n x b told e found_x within_x found_b within_b)) refuses
 
-pub typelib_stops : (files : Option Files) (unread : Type 0) (m n x b : List ℕ) (failure : Failure) → Found files m x → length x ≤ longest_typelib → Found files n b → length b ≤ longest_text → Stops (IsFile typelib m) ⊥ (RefusesTypelib m x) failure → CommandStops files (Call m n) unread failure
+pub typelib_stops : (files : Option Files) (unread : Type 0) (m n x b : List ℕ) (failure : Failure) → Found files m x → length x ≤ MAX_TYPELIB → Found files n b → length b ≤ MAX_TEXT → Stops (IsFile typelib m) ⊥ (RefusesTypelib m x) failure → CommandStops files (Call m n) unread failure
 typelib_stops files U m n x b failure found_x within_x found_b within_b stops =
     stops_as typelib m (Needs files (Call m n)) U (RefusesTypelib m x) (CommandRefused files (Call m n)) failure refl
     (λ f why. call_refused files m n x b f found_x within_x found_b within_b (inl why)) stops
 
-pub script_stops : (files : Option Files) (unread : Type 0) (m n x b : List ℕ) (lib : Library) (failure : Failure) → Found files m x → length x ≤ longest_typelib → Found files n b → length b ≤ longest_text → DenotesThin x lib → Stops (IsFile script n) ⊥ (RefusesScript n b) failure → CommandStops files (Call m n) unread failure
+pub script_stops : (files : Option Files) (unread : Type 0) (m n x b : List ℕ) (lib : Library) (failure : Failure) → Found files m x → length x ≤ MAX_TYPELIB → Found files n b → length b ≤ MAX_TEXT → DenotesThin x lib → Stops (IsFile script n) ⊥ (RefusesScript n b) failure → CommandStops files (Call m n) unread failure
 script_stops files U m n x b lib failure found_x within_x found_b within_b thin stops =
     stops_as script n (Needs files (Call m n)) U (RefusesScript n b) (CommandRefused files (Call m n)) failure
     (refl, λ told e. (x, found_x told e, within_x))
     (λ f why. call_refused files m n x b f found_x within_x found_b within_b (inr ((lib, thin), why))) stops
 
-pub call_writes : (files : Option Files) (m n x b : List ℕ) (lib : Library) (lines : spelled.Script) → Found files m x → length x ≤ longest_typelib → Found files n b → length b ≤ longest_text → DenotesThin x lib → IsThinScript b lines → CommandWrites files (Call m n) (static (table_of lib) SysV64 lines.lines)
+pub call_writes : (files : Option Files) (m n x b : List ℕ) (lib : Library) (lines : spelled.Script) → Found files m x → length x ≤ MAX_TYPELIB → Found files n b → length b ≤ MAX_TEXT → DenotesThin x lib → IsThinScript b lines → CommandWrites files (Call m n) (static (table_of lib) SysV64 lines.lines)
 call_writes files m n x b lib lines found_x within_x found_b within_b thin spelled =
     λ told e. let text = static (table_of lib) SysV64 lines.lines in
     let P : Input → Type 0 = λ i. Writes i text in

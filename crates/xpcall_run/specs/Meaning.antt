@@ -15,6 +15,7 @@ use Rattle.call_scripts.specs.declared.error.ScriptError.TheVariants as script
 use Rattle.call_scripts.specs.declared.script.Script as spelled
 use Rattle.script_run.specs.ThinScripts.{BlamesThin, IsThinScript}
 use Rattle.script_run.specs.Transcript.{static}
+use Rattle.xp_base.specs.declared.limits.TheConstants.{MAX_TEXT, MAX_TYPELIB}
 use Rattle.xpcall_run.specs.declared.commands.Command.{Command}
 use Rattle.xpcall_run.specs.declared.commands.Command.TheVariants.{Compile, Call}
 use Rattle.xpcall_run.specs.declared.failures.FileFault.{FileFault}
@@ -24,14 +25,6 @@ use Rattle.xpcall_run.specs.declared.failures.Failure.TheVariants.{Usage, Refuse
 use Rattle.xpcall_run.specs.Commands.{command_of}
 
 -- ---- inputs
-
--- the most bytes of an IDL file and of a script
-abbrev pub longest_text : ℕ
-longest_text = 1048576
-
--- the most bytes of a typelib
-abbrev pub longest_typelib : ℕ
-longest_typelib = 8388608
 
 -- What the words and the files are to the program: no command, a file that is absent or too long, an IDL file to compile, or
 -- a typelib and a script to run.
@@ -49,14 +42,14 @@ file_input limit name (Some bytes) input = if nat_lt limit (length bytes) then l
 
 -- the script that is to be run over a typelib of these bytes
 abbrev pub script_input : (typelib script : List ℕ) → Files → (typelib_bytes : List ℕ) → Input
-script_input typelib script told bytes = file_input longest_text script (file_in told script) (call_files typelib script bytes)
+script_input typelib script told bytes = file_input MAX_TEXT script (file_in told script) (call_files typelib script bytes)
 
 -- the file that is to be compiled; or the typelib, and then the script
 abbrev pub command_input : Option Command → Files → Input
 command_input None told = no_command
-command_input (Some (Compile name)) told = file_input longest_text name (file_in told name) (idl_file name)
+command_input (Some (Compile name)) told = file_input MAX_TEXT name (file_in told name) (idl_file name)
 command_input (Some (Call typelib script)) told =
-    file_input longest_typelib typelib (file_in told typelib) (script_input typelib script told)
+    file_input MAX_TYPELIB typelib (file_in told typelib) (script_input typelib script told)
 
 unfoldable pub input_of : List (List ℕ) → Files → Input
 input_of words told = command_input (command_of words) told

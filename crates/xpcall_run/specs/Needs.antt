@@ -5,7 +5,7 @@ use Rattle.xpcall_run.specs.declared.commands.Command.{Command}
 use Rattle.xpcall_run.specs.declared.commands.Command.TheVariants.{Compile, Call}
 use Rattle.xpcall_run.specs.declared.failures.FileFault.{FileFault}
 use Rattle.xpcall_run.specs.declared.failures.FileFault.TheVariants.{Missing, TooLong, Token, Syntax, Form, Typelib, Script}
-use Rattle.xpcall_run.specs.Meaning.{longest_typelib}
+use Rattle.xp_base.specs.declared.limits.TheConstants.{MAX_TYPELIB}
 
 -- what a file is needed as: as any file, or as one of these kinds
 pub data FileKind : Type 0 where
@@ -31,7 +31,7 @@ ToldWithin files limit name =
 
 -- the file is the script, and the typelib is there and not too long: before that no script is needed
 abbrev pub NeedsScript : (files : Option Files) → (typelib_name script_name name : List ℕ) → Type 0
-NeedsScript files typelib_name script_name name = (name ≡ script_name) × ToldWithin files longest_typelib typelib_name
+NeedsScript files typelib_name script_name name = (name ≡ script_name) × ToldWithin files MAX_TYPELIB typelib_name
 
 -- the command needs the file of this name as a file of this kind
 abbrev pub Needs : (files : Option Files) → Command → FileKind → (name : List ℕ) → Type 0

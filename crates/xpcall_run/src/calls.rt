@@ -5,19 +5,19 @@ ghost use Rattle.xp_base.specs.Causes.{Rose};
 ghost use Rattle.xp_base.specs.Files.{Files, file_in};
 ghost use Rattle.script_run.specs.ThinScripts.{IsThinScript};
 ghost use Rattle.xpcall_run.specs.Headline.{Asks, HasWritten, IsFirst};
-ghost use Rattle.xpcall_run.specs.Meaning.{DenotesThin, RefusesScript, RefusesTypelib, longest_text, longest_typelib};
+ghost use Rattle.xpcall_run.specs.Meaning.{DenotesThin, RefusesScript, RefusesTypelib};
 ghost use Rattle.xpcall_run.specs.Needs.{script, typelib};
 ghost use Rattle.xpcall_run.specs.Stops.{CommandStops, IsFile, Stops};
 ghost use Rattle.xpcall_run.specs.declared.commands.Command.TheVariants.{Call};
 
 use crate::failures::{Failure, FileFault};
-use crate::fetches::{LONGEST_TEXT, fetch};
+use crate::fetches::fetch;
 use call_scripts::{Script, ScriptError};
 use descriptor_reader::Typelib;
 use script_run::{read_thin, run_thin};
 use std::alloc::Global;
 use sysv_x86_64::Walk;
-use xp_base::{Bytes, MAX_TYPELIB, Sink, Source};
+use xp_base::{Bytes, MAX_TEXT, MAX_TYPELIB, Sink, Source};
 
 /// The bytes of a typelib and of a script.
 #[derive(Drop)]
@@ -59,19 +59,19 @@ fn fetch_both<S: Source>(
 ) -> Result<CallFiles, Failure>
     ensures typelib { (told : Files) → S.files files.old ≡ Some told → IfOk result (λ found. file_in told typelib.now ≡ Some found.typelib) }
     ensures script { (told : Files) → S.files files.old ≡ Some told → IfOk result (λ found. file_in told script.now ≡ Some found.script) }
-    ensures typelib_within { IfOk result (λ found. length found.typelib ≤ longest_typelib) }
-    ensures script_within { IfOk result (λ found. length found.script ≤ longest_text) }
+    ensures typelib_within { IfOk result (λ found. length found.typelib ≤ MAX_TYPELIB) }
+    ensures script_within { IfOk result (λ found. length found.script ≤ MAX_TEXT) }
     ensures err { IfErr result (CommandStops (S.files files.old) (Call typelib.now script.now) (Rose (S.faults files.old) (S.faults files.new))) }
     ensures same_files { S.files files.new ≡ S.files files.old }
 {
     let typelib = fetch(alloc, typelib, MAX_TYPELIB, files)?;
-    let script = fetch(alloc, script, LONGEST_TEXT, files)?;
+    let script = fetch(alloc, script, MAX_TEXT, files)?;
     Ok(CallFiles { typelib, script })
 }
 
 /// The thin library that the bytes of the typelib `name` denote, or why there is none.
 fn thin_library<'a>(alloc: Global, name: &Bytes, bytes: &'a [u8]) -> Result<Typelib<'a>, Failure>
-    requires { length bytes.now ≤ longest_typelib }
+    requires { length bytes.now ≤ MAX_TYPELIB }
     ensures ok { IfOk result (λ lib. DenotesThin bytes.now lib) }
     ensures err { IfErr result (Stops (IsFile typelib name.now) ⊥ (RefusesTypelib name.now bytes.now)) }
 {
@@ -86,7 +86,7 @@ fn thin_library<'a>(alloc: Global, name: &Bytes, bytes: &'a [u8]) -> Result<Type
 
 /// The thin script that the bytes of the script `name` spell, or why there is none.
 fn thin_script(alloc: Global, name: &Bytes, bytes: &[u8]) -> Result<Script, Failure>
-    requires { length bytes.now ≤ longest_text }
+    requires { length bytes.now ≤ MAX_TEXT }
     ensures ok { IfOk result (λ script. IsThinScript bytes.now script) }
     ensures err { IfErr result (Stops (IsFile script name.now) ⊥ (RefusesScript name.now bytes.now)) }
 {

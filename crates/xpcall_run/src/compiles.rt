@@ -3,16 +3,16 @@
 ghost use Rattle.std.specs.Prelude.{◌≡◌, ◌≤◌, ℕ, List, IfErr, IfOk, OnOk, length};
 ghost use Rattle.xp_base.specs.Causes.{Rose};
 ghost use Rattle.xpcall_run.specs.Headline.{Asks, HasWritten, IsFirst};
-ghost use Rattle.xpcall_run.specs.Meaning.{RefusesIdl, WritesTypelib, longest_text};
+ghost use Rattle.xpcall_run.specs.Meaning.{RefusesIdl, WritesTypelib};
 ghost use Rattle.xpcall_run.specs.Needs.{idl_text};
 ghost use Rattle.xpcall_run.specs.Stops.{CommandStops, CommandWrites, IsFile, Stops};
 ghost use Rattle.xpcall_run.specs.declared.commands.Command.TheVariants.{Compile};
 
 use crate::failures::{Failure, FileFault};
-use crate::fetches::{LONGEST_TEXT, fetch};
+use crate::fetches::fetch;
 use std::alloc::Global;
 use thin_idl::{ThinError, compile_thin};
-use xp_base::{Bytes, Sink, Source, put_all};
+use xp_base::{Bytes, MAX_TEXT, Sink, Source, put_all};
 
 /// Writes the typelib of the IDL file `name` to `out`, or says why it can't.
 pub fn compile<S: Source, O: Sink>(
@@ -40,13 +40,13 @@ fn typelib_of<S: Source>(alloc: Global, name: &Bytes, files: &mut S) -> Result<B
     ensures err { IfErr result (CommandStops (S.files files.old) (Compile name.now) (Rose (S.faults files.old) (S.faults files.new))) }
     ensures same_files { S.files files.new ≡ S.files files.old }
 {
-    let bytes = fetch(alloc, name, LONGEST_TEXT, files)?;
+    let bytes = fetch(alloc, name, MAX_TEXT, files)?;
     compile_bytes(alloc, name, bytes.as_slice())
 }
 
 /// The typelib of the IDL file `name`, which has these bytes, or why there is none.
 fn compile_bytes(alloc: Global, name: &Bytes, bytes: &[u8]) -> Result<Bytes, Failure>
-    requires { length bytes.now ≤ longest_text }
+    requires { length bytes.now ≤ MAX_TEXT }
     ensures written { IfOk result (WritesTypelib bytes.now) }
     ensures err { IfErr result (Stops (IsFile idl_text name.now) ⊥ (RefusesIdl name.now bytes.now)) }
 {

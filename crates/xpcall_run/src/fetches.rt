@@ -3,16 +3,12 @@
 ghost use Rattle.std.specs.Prelude.{◌≡◌, ◌≤◌, IfErr, IfOk, Some, length};
 ghost use Rattle.xp_base.specs.Causes.{Rose};
 ghost use Rattle.xp_base.specs.Files.{Files, file_in};
-ghost use Rattle.xpcall_run.specs.Meaning.{longest_typelib};
 ghost use Rattle.xpcall_run.specs.Needs.{any_file};
 ghost use Rattle.xpcall_run.specs.Stops.{IsFile, IsLimited, Stops, ToldUnfit};
 
 use crate::failures::{Failure, FileFault};
 use std::alloc::Global;
-use xp_base::{Bytes, Fetched, Source, SourceError};
-
-/// The most bytes of an IDL file and of a script.
-pub const LONGEST_TEXT: usize = 1_048_576;
+use xp_base::{Bytes, Fetched, MAX_TYPELIB, Source, SourceError};
 
 /// The bytes of the file `name`, at most `limit` of them, or why there are none: it could not be read, it is absent, it is
 /// too long, or memory ran out.
@@ -22,7 +18,7 @@ pub fn fetch<S: Source>(
     limit: usize,
     files: &mut S,
 ) -> Result<Bytes, Failure>
-    requires { limit ≤ longest_typelib }
+    requires { limit ≤ MAX_TYPELIB }
     ensures found { (told : Files) → S.files files.old ≡ Some told → IfOk result (λ bytes. file_in told name.now ≡ Some bytes) }
     ensures within { IfOk result (λ bytes. length bytes ≤ limit) }
     ensures err { IfErr result (Stops (IsFile any_file name.now) (Rose (S.faults files.old) (S.faults files.new)) (ToldUnfit (S.files files.old) limit name.now)) }

@@ -1,9 +1,9 @@
 use Rattle.std.proofs.Common.{arith, ap, ◌+◌, ◌∙◌, ◌≡◌, ℕ}
 use Rattle.lib_model.specs.Denotes.{half_at}
 use Rattle.typelib_faults.specs.declared.cursor.Cursor.{Cursor}
-use Rattle.typelib_faults.specs.Faults.{constant_fault, constant_next, constants_cursor, method_next, methods_reach}
+use Rattle.typelib_faults.specs.Faults.{constant_fault, constant_next, constants_cursor, methods_reach}
 use Rattle.typelib_faults.specs.Places.{methods_end}
-use Rattle.typelib_faults.specs.Walk.{reach, walk}
+use Rattle.typelib_faults.specs.Walk.{walk}
 use Rattle.typelib_faults.proofs.IfaceLaws.{methods_place}
 use Rattle.descriptor_reader.specs.Views.{first_at}
 use Rattle.descriptor_reader.proofs.MethodLaws.{constants_are, descriptor_parts, methods_ended}

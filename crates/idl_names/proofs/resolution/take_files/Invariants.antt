@@ -1,7 +1,8 @@
 use Rattle.std.proofs.Common.{◌≡◌, ◌≤◌, ◌+◌, drop, length}
 use Rattle.idl_meaning.specs.Scopes as scopes
 use Rattle.idl_meaning.specs.Faults as spec
-use Rattle.idl_meaning.specs.Counted.{AreCountedFiles, items_of}
+use Rattle.idl_grammar.specs.ClosedFiles.{items_of}
+use Rattle.idl_meaning.specs.Counted.{AreCountedFiles}
 use Rattle.idl_names.specs.States.{view}
 use Rattle.idl_names.proofs.resolution.take_files.Given as goal
 

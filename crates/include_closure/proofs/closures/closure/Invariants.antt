@@ -2,7 +2,7 @@ use Rattle.std.proofs.Common.{◌≡◌, ◌≤◌, ◌+◌, length, drop, Some}
 use Rattle.xp_base.specs.Files.{Files}
 use Rattle.include_closure.specs.declared.visited.TheConstants.{MAX_TOGETHER}
 use Rattle.include_closure.specs.Closure.{Outcome, Visits, nothing}
-use Rattle.include_closure.specs.Counts.{AreLawfulFiles, items_of}
+use Rattle.idl_grammar.specs.ClosedFiles.{AreLawfulFiles, items_of}
 use Rattle.include_closure.proofs.closures.closure.Given as goal
 
 abbrev pub invariant-roots : goal.invariant-roots
