@@ -2,16 +2,16 @@ ghost use Rattle.std.specs.Prelude.{◌≤◌, ◌<◌, ◌^◌, ◌≡◌, leng
 ghost use Rattle.idl_grammar.specs.ClosedFiles.{AreLawfulFiles, items_of};
 
 use idl_grammar::{ClosedFile, parse};
-use idl_lexer::{MAX_SOURCE, lex};
+use idl_lexer::lex;
 use idl_names::{IdlError, Scope, ScopeBody, resolve};
 use std::alloc::Global;
 use std::process::Abort;
 use std::test::Fail;
-use xp_base::{Bytes, List};
+use xp_base::{Bytes, List, MAX_TEXT};
 
 /// The one file of a text.
 fn closed(alloc: Global, text: &[u8]) -> Result<List<ClosedFile>, Fail>
-    requires { length text.now ≤ MAX_SOURCE }
+    requires { length text.now ≤ MAX_TEXT }
     ensures lawful { IfOk result AreLawfulFiles }
     ensures files { IfOk result (λ files. length files < 2 ^ 32) }
     ensures items { IfOk result (λ files. items_of files < 2 ^ 32) }
@@ -30,7 +30,7 @@ fn read(
     alloc: Global,
     text: &[u8],
 ) -> Result<Result<Scope, (u8, u32, u32)>, Fail> {
-    assert!(rt; text.len() <= MAX_SOURCE);
+    assert!(rt; text.len() <= MAX_TEXT);
     let files = closed(alloc, text)?;
     match resolve(alloc, &files) {
         Ok(scope) => Ok(Ok(scope)),
