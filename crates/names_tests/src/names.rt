@@ -62,7 +62,7 @@ fn within(alloc: Global, body: &[u8]) -> Result<Bytes, Fail> {
 
 #[test]
 fn declarations_have_these_codes(rt: HostRuntime) -> Result<(), Fail> {
-    let rows: [(&[u8], Option<(u8, u32, u32)>); 26] = [
+    let rows: [(&[u8], Option<(u8, u32, u32)>); 27] = [
         (b"typedef long a; typedef short a;", Some((1, 1, 0))),
         (
             b"interface a; typedef long a; interface b;",
@@ -98,6 +98,12 @@ fn declarations_have_these_codes(rt: HostRuntime) -> Result<(), Fail> {
         (
             b"[uuid(0000000a-0000-0000-0000-000000000000)] interface a { };
               [uuid(0000000A-0000-0000-0000-000000000000)] interface b { };",
+            Some((5, 1, 0)),
+        ),
+        (
+            b"[uuid(00000001-0000-0000-0000-000000000000),
+               uuid(00000002-0000-0000-0000-000000000000)] interface a { };
+              [uuid(00000001-0000-0000-0000-000000000000)] interface b { };",
             Some((5, 1, 0)),
         ),
         (b"typedef void a;", Some((6, 0, 0))),
