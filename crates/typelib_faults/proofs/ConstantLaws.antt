@@ -43,7 +43,7 @@ kind_reads kinds.I32 = refl
 kind_reads kinds.U16 = refl
 kind_reads kinds.U32 = refl
 
-kind_fine : (k : ConstKind) → is_kind_tag (kind_tag k) ≡ true
+pub kind_fine : (k : ConstKind) → is_kind_tag (kind_tag k) ≡ true
 kind_fine kinds.I16 = refl
 kind_fine kinds.I32 = refl
 kind_fine kinds.U16 = refl

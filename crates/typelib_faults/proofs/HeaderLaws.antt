@@ -24,7 +24,7 @@ annotation_cases x p false e low inside =
     let some : byte_at x p % 128 ≢ 0 = eqb-false (byte_at x p % 128) 0 e
     in record { form = inr (omega arith, refl); inside = inside }
 
-annotation_sound : (x : List ℕ) (p : ℕ) → is_annotation x p ≡ true → AnnotationStands x p (annotation_end x p)
+pub annotation_sound : (x : List ℕ) (p : ℕ) → is_annotation x p ≡ true → AnnotationStands x p (annotation_end x p)
 annotation_sound x p e =
     let parts : (nat_lt (byte_at x p % 128) 2 ≡ true) × (nat_le (annotation_end x p) (length x) ≡ true) = and_parts (nat_lt (byte_at x p % 128) 2) (nat_le (annotation_end x p) (length x)) e
     in annotation_cases x p (eqb (byte_at x p % 128) 0) refl (ltb-true (byte_at x p % 128) 2 parts.0) (leb-true (annotation_end x p) (length x) parts.1)
@@ -45,14 +45,14 @@ annotations_sound x (suc n) p e =
 
 -- ---- annotations that stand
 
-annotation_reads : (x : List ℕ) (p q : ℕ) → AnnotationStands x p q → (annotation_end x p ≡ q) × ((byte_at x p % 128 < 2) × (p + 1 ≤ q))
+pub annotation_reads : (x : List ℕ) (p q : ℕ) → AnnotationStands x p q → (annotation_end x p ≡ q) × ((byte_at x p % 128 < 2) × (p + 1 ≤ q))
 annotation_reads x p q stands =
     elim stands.form as (λ _. (annotation_end x p ≡ q) × ((byte_at x p % 128 < 2) × (p + 1 ≤ q))) [
       | inl h ↦ (let e : eqb (byte_at x p % 128) 0 ≡ true = eq-eqb (byte_at x p % 128) 0 h.0 in ap (λ (b : Bool). cond b (p + 1) (private_end x p)) e ∙ sym h.1, (omega (arith, h.0), omega (arith, h.1)))
       | inr h ↦ (let e : eqb (byte_at x p % 128) 0 ≡ false = ne_eqb (byte_at x p % 128) 0 (omega (arith, h.0)) in ap (λ (b : Bool). cond b (p + 1) (private_end x p)) e ∙ sym h.1, (omega (arith, h.0), omega (arith, h.1)))
     ]
 
-annotation_fine : (x : List ℕ) (p q : ℕ) → AnnotationStands x p q → faulty (not (is_annotation x p)) 5 p ≡ None
+pub annotation_fine : (x : List ℕ) (p q : ℕ) → AnnotationStands x p q → faulty (not (is_annotation x p)) 5 p ≡ None
 annotation_fine x p q stands =
     let read : (annotation_end x p ≡ q) × ((byte_at x p % 128 < 2) × (p + 1 ≤ q)) = annotation_reads x p q stands
     in fine_faulty (not (is_annotation x p)) 5 p (not_from_true (is_annotation x p) (and_from (nat_lt (byte_at x p % 128) 2) (nat_le (annotation_end x p) (length x)) (lt-ltb (byte_at x p % 128) 2 read.1.0) (le-leb (annotation_end x p) (length x) (omega (arith, read.0, stands.inside)))))

@@ -42,7 +42,7 @@ parent_sound x ifaces p resolves e =
       ]
     ]
 
-parent_fine : (x : List ℕ) (ifaces : List Iface) (p number : ℕ) → AreResolved x ifaces → half_at x p ≡ number → IsParent ifaces number → parent_fault x p ≡ None
+pub parent_fine : (x : List ℕ) (ifaces : List Iface) (p number : ℕ) → AreResolved x ifaces → half_at x p ≡ number → IsParent ifaces number → parent_fault x p ≡ None
 unfolding parent_fault
 parent_fine x ifaces p number resolved is (inl none) =
     let zero_here : eqb (half_at x p) 0 ≡ true = eq-eqb (half_at x p) 0 (is ∙ none)

@@ -1,11 +1,15 @@
+pub mod CauseFacts
 pub mod ChainLaws
 pub mod ConstantLaws
 pub mod EntryLaws
 pub mod FaultRows
+pub mod HeaderCauses
 pub mod HeaderLaws
 pub mod IfaceLaws
+pub mod MemberCauses
 pub mod MemberLaws
 pub mod NameLaws
 pub mod TypeLaws
+pub mod TypelibCauses
 pub mod TypelibLaws
 pub mod WalkFacts

@@ -52,7 +52,7 @@ plain_outside tag (inr h) = and_right (nat_le 20 tag) (nat_le tag 22) (lt-leb ta
 
 -- ---- elements' types, read
 
-abbrev elem_value : List ℕ → ℕ → ℕ → Bool → Bool → Elem
+abbrev pub elem_value : List ℕ → ℕ → ℕ → Bool → Bool → Elem
 elem_value x p tag b c = cond b (elems.Iface (half_at x (p + 1))) (cond c (elems.IidIs (byte_at x (p + 1))) (elems.Plain tag))
 
 elem_cases : (x : List ℕ) (p tag : ℕ) (b c : Bool) → eqb tag 18 ≡ b → eqb tag 19 ≡ c → TagStands x p tag → elem_rest_fault x p (elem_value x p tag b c) ≡ None → ElemStands x p (elem_value x p tag b c) (p + elem_len (elem_value x p tag b c)) × HasElemForm (elem_value x p tag b c)
@@ -72,7 +72,7 @@ elem_sound x p e =
 
 -- ---- types, read
 
-abbrev type_value : List ℕ → ℕ → ℕ → Bool → Bool → Bool → Bool → Bool → XType
+abbrev pub type_value : List ℕ → ℕ → ℕ → Bool → Bool → Bool → Bool → Bool → XType
 type_value x p tag a b c d e =
     cond a (types.Iface (half_at x (p + 1)))
     (cond b (types.IidIs (byte_at x (p + 1)))
@@ -250,7 +250,7 @@ number_sound count number p e =
     in let some : number ≢ 0 = eqb-false number 0 parts.0
     in (omega arith, ltb-false count number parts.1)
 
-number_fine : (count number p : ℕ) → IsIfaceNumber count number → number_fault count number p ≡ None
+pub number_fine : (count number p : ℕ) → IsIfaceNumber count number → number_fault count number p ≡ None
 number_fine count number p h =
     fine_faulty (eqb number 0 || nat_lt count number) 9 p (or_from (eqb number 0) (nat_lt count number) (ne_eqb number 0 (omega (arith, h.0))) (le-ltb count number h.1))
 
@@ -304,11 +304,11 @@ iid_arg_sound : (params : List Param) (number p : ℕ) → iid_arg_fault params 
 iid_arg_sound params number p e =
     iid_tag (slice_get params number) (not-false (has_iid_tag (slice_get params number)) (faulty_none (not (has_iid_tag (slice_get params number))) 12 p e))
 
-count_arg_fine : (params : List Param) (number p : ℕ) → IsCountParam params number → count_arg_fault params number p ≡ None
+pub count_arg_fine : (params : List Param) (number p : ℕ) → IsCountParam params number → count_arg_fault params number p ≡ None
 count_arg_fine params number p h =
     fine_faulty (not (has_count_tag (slice_get params number))) 12 p (not_from_true (has_count_tag (slice_get params number)) (tag_count (slice_get params number) h))
 
-iid_arg_fine : (params : List Param) (number p : ℕ) → IsIidParam params number → iid_arg_fault params number p ≡ None
+pub iid_arg_fine : (params : List Param) (number p : ℕ) → IsIidParam params number → iid_arg_fault params number p ≡ None
 iid_arg_fine params number p h =
     fine_faulty (not (has_iid_tag (slice_get params number))) 12 p (not_from_true (has_iid_tag (slice_get params number)) (tag_iid (slice_get params number) h))
 

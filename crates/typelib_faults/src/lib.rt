@@ -4,6 +4,7 @@
 
 mod cursor;
 mod faults;
+pub mod laws;
 
 pub use cursor::Cursor;
 pub use faults::{
