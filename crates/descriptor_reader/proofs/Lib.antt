@@ -1,4 +1,5 @@
 pub mod ArgLaws
+pub mod LoopLaws
 pub mod MethodLaws
 pub mod PrototypeLaws
 pub mod SearchLaws

@@ -116,13 +116,16 @@ unfolding body_at
 body_there x p true e = rw e refl
 body_there x p false e = rw e refl
 
+pub body_some : (x : List ℕ) (p : ℕ) → is_some (body_at x p) ≡ not (eqb (word_at x p) 0)
+body_some x p = body_there x p (eqb (word_at x p) 0) refl
+
 pub resolved_is : (x : List ℕ) (directory number entry : ℕ) → directory ≡ directory_of x → 0 < number → number ≤ count_of x → entry ≡ directory + 28 * (number - 1) → is_some (body_of (library_of x).ifaces number) ≡ not (eqb (word_at x (entry + 24)) 0)
 resolved_is x directory zero entry is above below there = absurd (omega (arith, above))
 resolved_is x directory (suc k) entry is above below there =
     let same : directory_of x + 28 * k + 24 ≡ entry + 24 = omega (arith, is, there)
     in ap (λ (ifaces : List Iface). is_some (body_of ifaces (suc k))) (library_entries x)
     ∙ (ap (λ (o : Option Body). is_some o) (known_body x k (omega (arith, below)))
-    ∙ (ap (λ (p : ℕ). is_some (body_at x p)) same ∙ body_there x (entry + 24) (eqb (word_at x (entry + 24)) 0) refl))
+    ∙ (ap (λ (p : ℕ). is_some (body_at x p)) same ∙ body_some x (entry + 24)))
 
 -- its identifier is the first 16 bytes of its entry
 pub iid_is : (x : List ℕ) (directory number entry : ℕ) → directory ≡ directory_of x → 0 < number → number ≤ count_of x → entry ≡ directory + 28 * (number - 1) → option_map (λ (i : Iface). i.iid) (nth_iface (library_of x).ifaces number) ≡ Some (take 16 (drop entry x))
@@ -185,18 +188,11 @@ unfolding library_of
 first_none x test before =
     ap (λ (o : Option ℕ). option_map (λ i. i + 1) o) (none_found (entry_at x) entry_end (directory_of x) (count_of x) test (λ j h. tested_entry x test j ∙ before j h))
 
--- what an entry says of name and identifier
-pub named_is : (x : List ℕ) (k entry : ℕ) (name : List ℕ) → entry ≡ directory_of x + 28 * k → is_named name (entry_after x k) ≡ (not (eqb (word_at x (entry + 24)) 0) && bytes_eq (name_at x (entry + 16)) name)
-unfolding entry_at
-named_is x k entry name there =
-    ap (λ (p : ℕ). is_some (body_at x (p + 24)) && bytes_eq (name_at x (p + 16)) name) (sym there)
-    ∙ ap (λ (b : Bool). b && bytes_eq (name_at x (entry + 16)) name) (body_there x (entry + 24) (eqb (word_at x (entry + 24)) 0) refl)
-
-pub has_iid_is : (x : List ℕ) (k entry : ℕ) (iid : List ℕ) → entry ≡ directory_of x + 28 * k → has_iid iid (entry_after x k) ≡ (not (eqb (word_at x (entry + 24)) 0) && bytes_eq (take 16 (drop entry x)) iid)
-unfolding entry_at
-has_iid_is x k entry iid there =
-    ap (λ (p : ℕ). is_some (body_at x (p + 24)) && bytes_eq (take 16 (drop p x)) iid) (sym there)
-    ∙ ap (λ (b : Bool). b && bytes_eq (take 16 (drop entry x)) iid) (body_there x (entry + 24) (eqb (word_at x (entry + 24)) 0) refl)
+-- what a test says of the entry of the number behind so many others
+pub entry_tests : (x : List ℕ) (test : Iface → Bool) (directory before entry : ℕ) (b : Bool) → directory ≡ directory_of x → entry ≡ directory + 28 * (before + 1 - 1) → test (entry_at x entry) ≡ b → test (entry_after x before) ≡ b
+entry_tests x test directory before entry b is there e =
+    let same : directory_of x + 28 * before ≡ entry = omega (arith, is, there)
+    in ap (λ (p : ℕ). test (entry_at x p)) same ∙ e
 
 -- the same for 0, which is the number of no interface
 pub slots_any : (x : List ℕ) (number : ℕ) → IsFine x → number ≤ count_of x → (slots_within (entries_of x) 250 number ≡ sum_by (own_slots (library_of x).ifaces) (chain_of (library_of x).ifaces number)) × (slots_within (entries_of x) 250 number ≤ 250)

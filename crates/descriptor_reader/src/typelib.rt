@@ -5,6 +5,7 @@ ghost use Rattle.lib_model.specs.Denotes.{Denotes};
 ghost use Rattle.lib_model.specs.Table.{methods_of, table_of};
 ghost use Rattle.lib_model.specs.Thin.{IsThin};
 ghost use Rattle.lib_model.specs.Valid.{IsValid};
+ghost use Rattle.typelib_faults.specs.Causes.{IsFault};
 ghost use Rattle.typelib_faults.specs.Laws.{FirstFault};
 ghost use Rattle.descriptor_reader.specs.Views.{MethodOf, numbered};
 
@@ -39,12 +40,14 @@ impl<'a> Model for Typelib<'a> {
 impl<'a> Typelib<'a> {
     /// Checks whether the bytes, of which there are at most `MAX_TYPELIB`, are a typelib. If so it
     /// stands for the library that they denote, in the XPCOM typelib format; there is only one.
-    /// Otherwise the answer is the first fault in the order in which a typelib is read.
+    /// Otherwise the answer is the first fault in the order in which a typelib is read, and what
+    /// its code says is wrong at its place.
     pub fn check(bytes: &'a [u8]) -> Result<Typelib<'a>, BadTypelib>
         requires { length bytes.now ≤ MAX_TYPELIB }
         ensures ok { IfOk result (λ lib. Denotes bytes.now lib) }
         ensures only { (lib : Library) → Denotes bytes.now lib → result ≡ Ok lib }
         ensures err { IfErr result (λ fault. FirstFault bytes.now fault) }
+        ensures cause { IfErr result (λ fault. IsFault bytes.now fault) }
     {
         match checked(bytes) {
             Ok(checked) => Ok(Typelib { checked }),

@@ -1,43 +1,24 @@
-use Rattle.std.proofs.Common.{false, true, ap, arith, refl, sym, ◌∙◌, ◌≡◌, ℕ}
-use borrow.Author.Count.{below_more}
+use Rattle.std.proofs.Common.{ap, arith, refl, sym, ◌∙◌, ◌≡◌, Bool}
 use Rattle.lib_model.specs.declared.param_types.Param.{Param}
 use Rattle.lib_model.specs.Table.{is_opaque}
 use Rattle.typelib_faults.specs.declared.cursor.Cursor.{Cursor}
-use Rattle.typelib_faults.specs.Faults.{param_fault, param_next}
-use Rattle.typelib_faults.specs.Places.{param_at, param_end}
-use Rattle.typelib_faults.specs.Walk.{reach}
-use Rattle.typelib_faults.proofs.WalkFacts.{part_fine, place_reached, step_more}
-use Rattle.descriptor_reader.proofs.ViewLaws.{any_passes, none_passes}
+use Rattle.typelib_faults.specs.Places.{param_at}
+use Rattle.typelib_check.proofs.StepLaws.{part_here}
+use Rattle.descriptor_reader.proofs.LoopLaws.{any_here, any_nowhere, past_on}
 use Rattle.descriptor_reader.proofs.statuses.any_opaque.Goals as goal
 
 pub known_param-requires : goal.known_param-requires
-known_param-requires c =
-    let x = c.args.file.now.bytes.now in
-    part_fine (param_fault x) (param_next x) c.args.params.from c.loop.at c.args.params.count c.loop.counter c.requires (omega arith) c.loop.invariant.reached
+known_param-requires c = part_here c.loop.invariant.is (omega arith)
 
 pub returns-then-is_opaque : goal.returns-then-is_opaque
 returns-then-is_opaque c =
-    let x = c.args.file.now.bytes.now in
-    let a = c.args.params in
-    let place = place_reached (param_next x) (param_end x) (λ s. refl) a.from c.loop.counter c.loop.at c.loop.invariant.reached in
-    let found : c.known_param.result.0 ≡ param_at x (reach (param_end x) a.from.place c.loop.counter) = ap (λ (p : Param × Cursor). p.0) c.known_param.ensures.is ∙ ap (param_at x) place in
-    let here : is_opaque (param_at x (reach (param_end x) a.from.place c.loop.counter)).ty ≡ true = ap (λ (p : Param). is_opaque p.ty) (sym found) ∙ (sym c.is_opaque.ensures ∙ c.if-is_opaque.true) in
-    sym (any_passes (param_at x) (param_end x) a.from.place a.count c.loop.counter (λ (p : Param). is_opaque p.ty) (omega arith) here)
+    let found : param_at c.args.file.now.bytes.now c.loop.at.place ≡ c.known_param.result.0 = sym (ap (λ (p : Param × Cursor). p.0) c.known_param.ensures.is) in
+    sym (any_here (λ s. refl) c.loop.invariant (omega arith) (ap (λ (p : Param). is_opaque p.ty) found ∙ (sym c.is_opaque.ensures ∙ c.if-is_opaque.true)))
 
 pub loop-preserved : goal.loop-preserved
 loop-preserved c =
-    let x = c.args.file.now.bytes.now in
-    let a = c.args.params in
-    let place = place_reached (param_next x) (param_end x) (λ s. refl) a.from c.loop.counter c.loop.at c.loop.invariant.reached in
-    let found : c.known_param.result.0 ≡ param_at x (reach (param_end x) a.from.place c.loop.counter) = ap (λ (p : Param × Cursor). p.0) c.known_param.ensures.is ∙ ap (param_at x) place in
-    let here : is_opaque (param_at x (reach (param_end x) a.from.place c.loop.counter)).ty ≡ false = ap (λ (p : Param). is_opaque p.ty) (sym found) ∙ (sym c.is_opaque.ensures ∙ c.if-is_opaque.false) in
-    record {
-      reached = step_more (param_next x) a.from c.loop.at c.known_param.result.1 c.loop.counter c.loop.invariant.reached (ap (λ (p : Param × Cursor). p.1) c.known_param.ensures.is);
-      none = below_more (λ (j : ℕ). is_opaque (param_at x (reach (param_end x) a.from.place j)).ty ≡ false) c.loop.counter c.loop.invariant.none here;
-    }
+    let found : param_at c.args.file.now.bytes.now c.loop.at.place ≡ c.known_param.result.0 = sym (ap (λ (p : Param × Cursor). p.0) c.known_param.ensures.is) in
+    past_on _ (λ s. refl) c.loop.invariant (ap (λ (p : Param). is_opaque p.ty) found ∙ (sym c.is_opaque.ensures ∙ c.if-is_opaque.false)) (ap (λ (p : Param × Cursor). p.1) c.known_param.ensures.is)
 
 pub returns : goal.returns
-returns c =
-    let x = c.args.file.now.bytes.now in
-    let a = c.args.params in
-    sym (none_passes (param_at x) (param_end x) a.from.place a.count (λ (p : Param). is_opaque p.ty) (λ j low. c.loop.invariant.none j (omega (arith, low))))
+returns c = sym (any_nowhere c.loop.invariant (omega arith))

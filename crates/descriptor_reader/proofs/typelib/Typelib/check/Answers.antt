@@ -3,6 +3,7 @@ use Rattle.std.specs.Prelude.{Ok}
 use Rattle.lib_model.specs.Denotes.{Denotes}
 use Rattle.typelib_faults.specs.Bytes.{AreBytes}
 use Rattle.typelib_faults.specs.Places.{library_of}
+use Rattle.typelib_faults.proofs.TypelibCauses.{first_fault_is}
 use Rattle.typelib_faults.proofs.TypelibLaws.{denotes_one, fault_denies, fine_denotes}
 use Rattle.descriptor_reader.proofs.typelib.Typelib.check.Goals as goal
 
@@ -17,3 +18,6 @@ returns-in-Ok-clause-only c =
 
 pub returns-in-Err-clause-only : goal.returns-in-Err-clause-only
 returns-in-Err-clause-only c = λ lib d. absurd (fault_denies c.args.bytes.now c.in-Err.fault lib c.in-Err.ensures.tries d)
+
+pub returns-in-Err-clause-cause : goal.returns-in-Err-clause-cause
+returns-in-Err-clause-cause c = first_fault_is c.args.bytes.now c.in-Err.fault c.in-Err.ensures.tries
