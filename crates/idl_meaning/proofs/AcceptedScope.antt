@@ -12,11 +12,12 @@ use Rattle.idl_grammar.specs.declared.tree.ItemBody.TheVariants as item
 use Rattle.idl_meaning.specs.declared.scope.Meant.{Meant}
 use Rattle.idl_meaning.specs.declared.scope.Meant.TheVariants as meant
 use Rattle.idl_meaning.specs.declared.scope.ScopeIface.{ScopeIface}
-use Rattle.idl_meaning.specs.Attributes.{has, is_plain}
+use Rattle.idl_meaning.specs.Attributes.{has, is_plain, uuid_of}
 use Rattle.idl_meaning.specs.Meaning.{Names, Bound, Typed, Forward, Defined, learns, meaning_of, sense, native_by, native_meaning, nsid_meaning, said_by}
 use Rattle.idl_meaning.specs.Scopes.{Known, nothing_known, number_or_next, defined_number, parent_bound, next_number, inside, stands_for, bare_iface, iface_made, members_made, placed, after_interface, after_forward, after_new, redeclares, after, after_items, after_files}
 use Rattle.idl_meaning.specs.Faults.{Declaration, codes_at, faults_with, inner_faults, item_faults, file_faults, faults_from}
 use Rattle.idl_meaning.specs.Accepted.{IsMeant, IsResult, IsAcceptedIface}
+use Rattle.idl_meaning.proofs.Identifiers.{iid-or-zero, uuid-long}
 use Rattle.idl_meaning.proofs.Methods.{stands-meant}
 use Rattle.idl_meaning.proofs.Members.{nil_left, nil_right, members-accepted}
 use Rattle.idl_meaning.proofs.Good.{Placed, placed-last, placed-set, IsDefinedAt, IsGood, good-typed, defined-kept, meant-placed, good-placed}
@@ -83,6 +84,8 @@ goes-by ifaces x (Some (Defined number rank)) h = at-number ifaces number x (h (
 
 bare-accepted : (file decl : ℕ) (name : List ℕ) (ifaces : List ScopeIface) → IsAcceptedIface ifaces (bare_iface file decl name)
 bare-accepted file decl name ifaces = record {
+  identifier = refl;
+  flags = record { scriptable = false; function = false; builtinclass = false; made = refl };
   members = λ k m e. absurd cc;
   extends = λ p e. absurd cc;
   parentless = λ h. refl;
@@ -132,6 +135,13 @@ interface-good file decl k i good none =
     let goes : Placed k.ifaces new number x = goes-by k.ifaces x (k.names i.name) (good.meanings i.name) in
     good-placed k.names k.ifaces new i.name number b x good goes refl refl refl refl (inr refl) (λ n rank e. refl)
     (record {
+      identifier = iid-or-zero (uuid_of i.attrs) (uuid-long i.attrs);
+      flags = record {
+        scriptable = has (codes "scriptable") i.attrs;
+        function = has (codes "function") i.attrs;
+        builtinclass = has (codes "builtinclass") i.attrs;
+        made = refl;
+      };
       members = members-accepted i.members (length new) file decl 1 (inside k i) (meant-placed k.names k.ifaces new i.name number b x good.meanings goes refl) none;
       extends = λ p e. defined-kept k.ifaces new number x goes (inr refl) p (parent-there k i.parent p good e);
       parentless = λ h. absurd cc;

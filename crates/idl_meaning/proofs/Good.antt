@@ -170,6 +170,8 @@ defined-kept old new number x placed marks k h =
 iface-kept : (old new : List ScopeIface) (number : ℕ) (x : ScopeIface) → Placed old new number x → (slice_get old number ≡ None) ⊎ IsTrue x.defined
     → (i : ScopeIface) → IsAcceptedIface old i → IsAcceptedIface new i
 iface-kept old new number x placed marks i h = record {
+  identifier = h.identifier;
+  flags = h.flags;
   members = members-weaker (length old) (length new) placed.grows i.members h.members;
   extends = λ p e. defined-kept old new number x placed marks p (h.extends p e);
   parentless = h.parentless;

@@ -4,8 +4,10 @@ pub mod Sorted
 pub mod CountedLaws
 pub mod Methods
 pub mod Members
+pub mod Identifiers
 pub mod Good
 pub mod AcceptedScope
 pub mod Identified
-pub mod Named
+pub mod Lawful
+pub mod Few
 pub mod WholeScope

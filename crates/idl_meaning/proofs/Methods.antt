@@ -1,6 +1,6 @@
 -- The parameters of a method without faults.
 use Rattle.std.proofs.Common.{◌≡◌, ℕ, zero, suc, Bool, true, false, not, ◌&&◌, ◌||◌, List, [], ◌∷◌, ◌++◌, length, Option, Some, None, refl, sym, ap, ◌∙◌, subst, if◌then◌else◌, option_and_then, find}
-use Rattle.std.specs.Prelude.{slice_get, IsSomeAnd, IsTrue, IsFalse, is_some, is_none}
+use Rattle.std.specs.Prelude.{slice_get, IsSomeAnd, is_some, is_none}
 use Rattle.std.specs.List.{list_any}
 use Rattle.std.specs.Str.{bytes_eq}
 use Rattle.xp_base.specs.declared.kinds.Dir.{Dir}
@@ -13,7 +13,7 @@ use Rattle.idl_meaning.specs.declared.scope.ScopeParam.{ScopeParam}
 use Rattle.idl_meaning.specs.Meaning.{Names, Bound, meaning_of, bound_sense, is_iid_ref, Sense, Unknown, Nothing, Means, sense, is_unknown, is_a, is_no, is_integer, is_iid, is_class}
 use Rattle.idl_meaning.specs.Scopes.{number_from, number_in, stands_for, result_of, param_made, params_made}
 use Rattle.idl_meaning.specs.Faults.{Place, numbered, when, applied, is_misnamed, is_array, size_name, length_name, iid_name, is_named, param_of, is_no_param, is_wrong_count, is_wrong_iid, is_mismeasured, is_wrong_array, is_retval, is_out, is_empty, any_wrong_retval, is_void_name}
-use Rattle.idl_meaning.specs.Accepted.{IsMeant, IsResult, Points, IsAcceptedParam, IsAcceptedMethod}
+use Rattle.idl_meaning.specs.Accepted.{IsMeant, IsResult, IsSingle, Points, IsAcceptedParam, IsAcceptedMethod}
 use Rattle.idl_meaning.proofs.Among.{later, later-from_zero}
 
 -- ---- tests
@@ -117,7 +117,7 @@ module _ (test : Meant → Bool) (names : Names) (ps : List ParamDecl) (known : 
       let r = number-leads ps w g.0 g.1 in
       let there : slice_get (params_made names (number_in ps) ps) r.0 ≡ Some (param_made names (number_in ps) g.0) = made-at names (number_in ps) ps r.0 g.0 r.2 in
       let ok : test (stands_for (sense names g.0.of)) ≡ true = passes test (sense names g.0.of) (none_of (is_misnamed names) ps r.0 g.0 known r.2) g.3 in
-      (r.0, r.1, subst (λ (o : Option ScopeParam). IsSomeAnd o (λ q. IsTrue (test q.ty) × IsFalse q.array)) (sym there) (ok, g.2))
+      (r.0, r.1, subst (λ (o : Option ScopeParam). IsSomeAnd o (IsSingle test)) (sym there) (record { passes = ok; no_array = g.2 }))
 
   -- where a name is given, its number is there
   pub points : (o : Option (List ℕ)) → ((w : List ℕ) → o ≡ Some w → is_no_param test names (param_of ps w) ≡ false)

@@ -1,5 +1,5 @@
 -- What holds of the scope of files without faults.
-use Rattle.std.specs.Prelude.{◌≡◌, ℕ, suc, ◌<◌, Bool, ◌&&◌, ◌||◌, ◌==◌, List, [], length, Option, Some, None, is_some, nat_le, slice_get, IsSomeAnd, IsTrue, IsFalse}
+use Rattle.std.specs.Prelude.{◌≡◌, ℕ, suc, ◌<◌, ◌^◌, Bool, ◌&&◌, ◌||◌, ◌==◌, List, [], length, Option, Some, None, is_some, nat_le, slice_get, IsSomeAnd, IsTrue, IsFalse}
 use Rattle.xp_base.specs.declared.kinds.Dir.TheVariants.{Outward}
 use Rattle.idl_grammar.specs.Trees.{IsShortText}
 use Rattle.idl_meaning.specs.declared.scope.Meant.{Meant}
@@ -10,6 +10,7 @@ use Rattle.idl_meaning.specs.declared.scope.ScopeIface.{ScopeIface}
 use Rattle.idl_meaning.specs.declared.scope.ScopeMember.{ScopeMember}
 use Rattle.idl_meaning.specs.declared.scope.ScopeParam.{ScopeParam}
 use Rattle.idl_meaning.specs.declared.scope.Scope.{Scope}
+use Rattle.idl_meaning.specs.Attributes.{iface_flags}
 use Rattle.idl_meaning.specs.Meaning.{is_integer, is_iid, is_class}
 use Rattle.idl_meaning.specs.Constants.{in_range}
 
@@ -33,12 +34,15 @@ abbrev pub IsResult : ℕ → Option Meant → Type 0
 IsResult count None = Unit {0}
 IsResult count (Some m) = IsMeant count m
 
--- the parameter of the number, where there is a number, is no array and has a type that passes
--- the test
+-- a parameter that is no array, and has a type that passes the test
+pub record IsSingle (test : Meant → Bool) (p : ScopeParam) : Type 0 where
+  pub passes : IsTrue (test p.ty)
+  pub no_array : IsFalse p.array
+
+-- where there is a number, it is that of such a parameter
 abbrev pub Points : (Meant → Bool) → List ScopeParam → Option ℕ → Type 0
 Points test params None = Unit {0}
-Points test params (Some k) =
-    IsSomeAnd (slice_get params k) (λ q. IsTrue (test q.ty) × IsFalse q.array)
+Points test params (Some k) = IsSomeAnd (slice_get params k) (IsSingle test)
 
 -- A parameter: its type, sizes, lengths and identifiers that are given by parameters of the kinds
 -- that can give them, a length only beside a size, and an array that has a size and is of no
@@ -76,17 +80,36 @@ abbrev pub AreAcceptedMembers : ℕ → List ScopeMember → Type 0
 AreAcceptedMembers count members =
     (k : ℕ) (m : ScopeMember) → slice_get members k ≡ Some m → IsAcceptedBody count m.body
 
--- An interface: its members; its parent is defined; and one that is not defined has neither.
+-- the bits that an interface has in a typelib, each set or not
+pub record AreIfaceFlags (flags : ℕ) : Type 0 where
+  pub scriptable : Bool
+  pub function : Bool
+  pub builtinclass : Bool
+  pub made : flags ≡ iface_flags scriptable function builtinclass
+
+-- An interface: its identifier has 16 bytes; its flags; its members; its parent is defined; and
+-- one that is not defined has neither parent nor members.
 pub record IsAcceptedIface (ifaces : List ScopeIface) (i : ScopeIface) : Type 0 where
+  pub identifier : length i.iid ≡ 16
+  pub flags : AreIfaceFlags i.flags
   pub members : AreAcceptedMembers (length ifaces) i.members
   pub extends : (p : ℕ) → i.parent ≡ Some p → IsSomeAnd (slice_get ifaces p) (λ q. IsTrue q.defined)
   pub parentless : IsFalse i.defined → i.parent ≡ None
   pub memberless : IsFalse i.defined → i.members ≡ []
 
--- its name and those of its members have 1 to 255 bytes, none of which is 0
-pub record IsNamed (i : ScopeIface) : Type 0 where
+-- What the language has of an interface: its name and those of its members have 1 to 255 bytes,
+-- none of which is 0, and its members are fewer than 2^32.
+pub record IsLawfulIface (i : ScopeIface) : Type 0 where
   pub named : IsShortText i.name
-  pub members : (k : ℕ) (m : ScopeMember) → slice_get i.members k ≡ Some m → IsShortText m.name
+  pub members_named : (k : ℕ) (m : ScopeMember) → slice_get i.members k ≡ Some m
+      → IsShortText m.name
+  pub few_members : length i.members < 2 ^ 32
+
+-- no two interfaces have one name
+abbrev pub AreNamedOnce : List ScopeIface → Type 0
+AreNamedOnce ifaces =
+    (j k : ℕ) (a b : ScopeIface) → slice_get ifaces j ≡ Some a → slice_get ifaces k ≡ Some b
+    → a.name ≡ b.name → j ≡ k
 
 -- no two interfaces that are defined have one identifier
 abbrev pub AreIdentifiedOnce : List ScopeIface → Type 0
@@ -94,11 +117,11 @@ AreIdentifiedOnce ifaces =
     (j k : ℕ) (a b : ScopeIface) → slice_get ifaces j ≡ Some a → slice_get ifaces k ≡ Some b
     → IsTrue a.defined → IsTrue b.defined → a.iid ≡ b.iid → j ≡ k
 
--- The scope of lawful files without faults: each interface, and no two have one name, or,
--- defined, one identifier.
+-- The scope of lawful files without faults: fewer than 2^32 interfaces, and each of them; and no
+-- two have one name, or, defined, one identifier.
 pub record IsAcceptedScope (s : Scope) : Type 0 where
+  pub few : length s.ifaces < 2 ^ 32
   pub each : (k : ℕ) (i : ScopeIface) → slice_get s.ifaces k ≡ Some i → IsAcceptedIface s.ifaces i
-  pub named : (k : ℕ) (i : ScopeIface) → slice_get s.ifaces k ≡ Some i → IsNamed i
-  pub named_once : (j k : ℕ) (a b : ScopeIface) → slice_get s.ifaces j ≡ Some a
-      → slice_get s.ifaces k ≡ Some b → a.name ≡ b.name → j ≡ k
+  pub lawful : (k : ℕ) (i : ScopeIface) → slice_get s.ifaces k ≡ Some i → IsLawfulIface i
+  pub named_once : AreNamedOnce s.ifaces
   pub identified_once : AreIdentifiedOnce s.ifaces

@@ -56,8 +56,13 @@ uuid_of attrs = first_given iid_in (codes "uuid") attrs
 abbrev pub bit : ℕ → Bool → ℕ
 bit n set = if set then n else 0
 
--- the bits of an interface in a typelib
+-- the bits that an interface has in a typelib
+abbrev pub iface_flags : Bool → Bool → Bool → ℕ
+iface_flags scriptable function builtinclass =
+    bit 128 scriptable + bit 64 function + bit 32 builtinclass
+
+-- those that its attributes give
 abbrev pub iface_bits : List Attr → ℕ
 iface_bits attrs =
-    bit 128 (has (codes "scriptable") attrs) + bit 64 (has (codes "function") attrs)
-    + bit 32 (has (codes "builtinclass") attrs)
+    iface_flags (has (codes "scriptable") attrs) (has (codes "function") attrs)
+    (has (codes "builtinclass") attrs)

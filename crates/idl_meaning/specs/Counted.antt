@@ -1,5 +1,5 @@
 -- What has few enough parts to be numbered in 32 bits, as each file has that was read from tokens.
-use Rattle.std.specs.Prelude.{ℕ, ◌^◌, ◌<◌, List, [], ◌∷◌, length}
+use Rattle.std.specs.Prelude.{◌^◌, ◌<◌, List, [], ◌∷◌, length}
 use Rattle.idl_grammar.specs.declared.tree.ClosedFile.{ClosedFile}
 use Rattle.idl_grammar.specs.declared.tree.Item.{Item}
 use Rattle.idl_grammar.specs.declared.tree.ItemBody.{ItemBody}

@@ -20,13 +20,23 @@ abbrev pub plain : List (Lent × ℕ) → List (Key × ℕ)
 plain [] = []
 plain (e ∷ es) = (plain_key e.0, e.1) ∷ plain es
 
-pub plain_inserted : (cmp : Lent → Lent → Ordering) → ((a b : Lent) → cmp a b ≡ key_cmp (plain_key a) (plain_key b)) → (es : List (Lent × ℕ)) (k : Lent) (v : ℕ) → plain (insert_entry cmp es k v) ≡ insert_entry key_cmp (plain es) (plain_key k) v
+pub plain_inserted : (cmp : Lent → Lent → Ordering)
+    → ((a b : Lent) → cmp a b ≡ key_cmp (plain_key a) (plain_key b))
+    → (es : List (Lent × ℕ)) (k : Lent) (v : ℕ) → plain (insert_entry cmp es k v)
+    ≡ insert_entry key_cmp (plain es) (plain_key k) v
 plain_inserted cmp same [] k v = refl
 plain_inserted cmp same (e ∷ es) k v =
     go (cmp k e.0) (plain_inserted cmp same es k v)
-    ∙ ap (λ o. match_ordering o ((plain_key k, v) ∷ (plain_key e.0, e.1) ∷ plain es) ((plain_key e.0, v) ∷ plain es) ((plain_key e.0, e.1) ∷ insert_entry key_cmp (plain es) (plain_key k) v)) (same k e.0)
+    ∙ ap (λ o. match_ordering o ((plain_key k, v) ∷ (plain_key e.0, e.1) ∷ plain es)
+    ((plain_key e.0, v) ∷ plain es)
+    ((plain_key e.0, e.1) ∷ insert_entry key_cmp (plain es) (plain_key k) v)) (same k e.0)
   where
-    go : (o : Ordering) → plain (insert_entry cmp es k v) ≡ insert_entry key_cmp (plain es) (plain_key k) v → plain (match_ordering o ((k, v) ∷ e ∷ es) ((e.0, v) ∷ es) (e ∷ insert_entry cmp es k v)) ≡ match_ordering o ((plain_key k, v) ∷ (plain_key e.0, e.1) ∷ plain es) ((plain_key e.0, v) ∷ plain es) ((plain_key e.0, e.1) ∷ insert_entry key_cmp (plain es) (plain_key k) v)
+    go : (o : Ordering) → plain (insert_entry cmp es k v)
+        ≡ insert_entry key_cmp (plain es) (plain_key k) v
+        → plain (match_ordering o ((k, v) ∷ e ∷ es) ((e.0, v) ∷ es) (e ∷ insert_entry cmp es k v))
+        ≡ match_ordering o ((plain_key k, v) ∷ (plain_key e.0, e.1) ∷ plain es)
+        ((plain_key e.0, v) ∷ plain es)
+        ((plain_key e.0, e.1) ∷ insert_entry key_cmp (plain es) (plain_key k) v)
     go Less rest = refl
     go Equal rest = refl
     go Greater rest = ap (λ more. (plain_key e.0, e.1) ∷ more) rest
@@ -36,11 +46,14 @@ plain_values [] = refl
 plain_values (e ∷ es) = ap (λ vs. e.1 ∷ vs) (plain_values es)
 
 -- one interface more
-pub entered_more : (ifaces : List ScopeIface) (es now : List (Key × ℕ)) (k : ℕ) (i : ScopeIface) → k < length ifaces → i ≡ get_or ifaces k i → now ≡ insert_entry key_cmp es (key_of i) k → entered now (k + 1) (drop (k + 1) ifaces) ≡ entered es k (drop k ifaces)
+pub entered_more : (ifaces : List ScopeIface) (es now : List (Key × ℕ)) (k : ℕ) (i : ScopeIface)
+    → k < length ifaces → i ≡ get_or ifaces k i → now ≡ insert_entry key_cmp es (key_of i) k
+    → entered now (k + 1) (drop (k + 1) ifaces) ≡ entered es k (drop k ifaces)
 entered_more ifaces es now k i within is inserted =
     ap (λ e. entered e (k + 1) (drop (k + 1) ifaces)) inserted
     ∙ ap (λ x. entered es k (x ∷ drop (k + 1) ifaces)) is
     ∙ sym (at_drop_more (entered es k) ifaces k i within)
 
-pub entered_all : (ifaces : List ScopeIface) (es : List (Key × ℕ)) (k : ℕ) → length ifaces ≤ k → entered es k (drop k ifaces) ≡ es
+pub entered_all : (ifaces : List ScopeIface) (es : List (Key × ℕ)) (k : ℕ) → length ifaces ≤ k
+    → entered es k (drop k ifaces) ≡ es
 entered_all ifaces es k past = at_drop_all (entered es k) ifaces k past

@@ -26,14 +26,16 @@ unfolding both
 each f h true = left (f true) (f false) h
 each f h false = right (f true) (f false) h
 
-each6 : (f : Bool → Bool → Bool → Bool → Bool → Bool → Bool) → all6 f ≡ true → (a b c d e g : Bool) → f a b c d e g ≡ true
+each6 : (f : Bool → Bool → Bool → Bool → Bool → Bool → Bool) → all6 f ≡ true → (a b c d e g : Bool)
+    → f a b c d e g ≡ true
 each6 f h a b c d e g =
     each (λ x. f a b c d e x)
     (each (λ y. both (λ x. f a b c d y x))
     (each (λ z. both (λ y. both (λ x. f a b c z y x)))
     (each (λ u. both (λ z. both (λ y. both (λ x. f a b u z y x))))
     (each (λ v. both (λ u. both (λ z. both (λ y. both (λ x. f a v u z y x)))))
-    (each (λ w. both (λ v. both (λ u. both (λ z. both (λ y. both (λ x. f w v u z y x)))))) h a) b) c) d) e) g
+    (each (λ w. both (λ v. both (λ u. both (λ z. both (λ y. both (λ x. f w v u z y x)))))) h a) b)
+    c) d) e) g
 
 abbrev same : Bool → Bool → Bool
 same true b = b
@@ -49,45 +51,65 @@ same-true false false h = refl
 
 pub param_in : (a b c d e g : Bool) → has (param_flags a b c d e g) 128 ≡ a
 unfolding both
-param_in a b c d e g = same-true (has (param_flags a b c d e g) 128) a (each6 (λ a b c d e g. same (has (param_flags a b c d e g) 128) a) refl a b c d e g)
+param_in a b c d e g =
+    same-true (has (param_flags a b c d e g) 128) a
+    (each6 (λ a b c d e g. same (has (param_flags a b c d e g) 128) a) refl a b c d e g)
 
 pub param_out : (a b c d e g : Bool) → has (param_flags a b c d e g) 64 ≡ b
 unfolding both
-param_out a b c d e g = same-true (has (param_flags a b c d e g) 64) b (each6 (λ a b c d e g. same (has (param_flags a b c d e g) 64) b) refl a b c d e g)
+param_out a b c d e g =
+    same-true (has (param_flags a b c d e g) 64) b
+    (each6 (λ a b c d e g. same (has (param_flags a b c d e g) 64) b) refl a b c d e g)
 
 pub param_retval : (a b c d e g : Bool) → has (param_flags a b c d e g) 32 ≡ c
 unfolding both
-param_retval a b c d e g = same-true (has (param_flags a b c d e g) 32) c (each6 (λ a b c d e g. same (has (param_flags a b c d e g) 32) c) refl a b c d e g)
+param_retval a b c d e g =
+    same-true (has (param_flags a b c d e g) 32) c
+    (each6 (λ a b c d e g. same (has (param_flags a b c d e g) 32) c) refl a b c d e g)
 
 pub param_optional : (a b c d e g : Bool) → has (param_flags a b c d e g) 4 ≡ g
 unfolding both
-param_optional a b c d e g = same-true (has (param_flags a b c d e g) 4) g (each6 (λ a b c d e g. same (has (param_flags a b c d e g) 4) g) refl a b c d e g)
+param_optional a b c d e g =
+    same-true (has (param_flags a b c d e g) 4) g
+    (each6 (λ a b c d e g. same (has (param_flags a b c d e g) 4) g) refl a b c d e g)
 
 -- ---- methods
 
 pub method_getter : (a b c d e g : Bool) → has (method_flags a b c d e g) 128 ≡ a
 unfolding both
-method_getter a b c d e g = same-true (has (method_flags a b c d e g) 128) a (each6 (λ a b c d e g. same (has (method_flags a b c d e g) 128) a) refl a b c d e g)
+method_getter a b c d e g =
+    same-true (has (method_flags a b c d e g) 128) a
+    (each6 (λ a b c d e g. same (has (method_flags a b c d e g) 128) a) refl a b c d e g)
 
 pub method_setter : (a b c d e g : Bool) → has (method_flags a b c d e g) 64 ≡ b
 unfolding both
-method_setter a b c d e g = same-true (has (method_flags a b c d e g) 64) b (each6 (λ a b c d e g. same (has (method_flags a b c d e g) 64) b) refl a b c d e g)
+method_setter a b c d e g =
+    same-true (has (method_flags a b c d e g) 64) b
+    (each6 (λ a b c d e g. same (has (method_flags a b c d e g) 64) b) refl a b c d e g)
 
 pub method_notxpcom : (a b c d e g : Bool) → has (method_flags a b c d e g) 32 ≡ c
 unfolding both
-method_notxpcom a b c d e g = same-true (has (method_flags a b c d e g) 32) c (each6 (λ a b c d e g. same (has (method_flags a b c d e g) 32) c) refl a b c d e g)
+method_notxpcom a b c d e g =
+    same-true (has (method_flags a b c d e g) 32) c
+    (each6 (λ a b c d e g. same (has (method_flags a b c d e g) 32) c) refl a b c d e g)
 
 pub method_hidden : (a b c d e g : Bool) → has (method_flags a b c d e g) 8 ≡ d
 unfolding both
-method_hidden a b c d e g = same-true (has (method_flags a b c d e g) 8) d (each6 (λ a b c d e g. same (has (method_flags a b c d e g) 8) d) refl a b c d e g)
+method_hidden a b c d e g =
+    same-true (has (method_flags a b c d e g) 8) d
+    (each6 (λ a b c d e g. same (has (method_flags a b c d e g) 8) d) refl a b c d e g)
 
 pub method_argc : (a b c d e g : Bool) → has (method_flags a b c d e g) 4 ≡ e
 unfolding both
-method_argc a b c d e g = same-true (has (method_flags a b c d e g) 4) e (each6 (λ a b c d e g. same (has (method_flags a b c d e g) 4) e) refl a b c d e g)
+method_argc a b c d e g =
+    same-true (has (method_flags a b c d e g) 4) e
+    (each6 (λ a b c d e g. same (has (method_flags a b c d e g) 4) e) refl a b c d e g)
 
 pub method_context : (a b c d e g : Bool) → has (method_flags a b c d e g) 2 ≡ g
 unfolding both
-method_context a b c d e g = same-true (has (method_flags a b c d e g) 2) g (each6 (λ a b c d e g. same (has (method_flags a b c d e g) 2) g) refl a b c d e g)
+method_context a b c d e g =
+    same-true (has (method_flags a b c d e g) 2) g
+    (each6 (λ a b c d e g. same (has (method_flags a b c d e g) 2) g) refl a b c d e g)
 
 -- ---- known bits
 
@@ -100,13 +122,21 @@ ltb-so m n h = ltb-true m n h
 pub param_known : (a b c d e g : Bool) → AreKnownBits param_bits (param_flags a b c d e g)
 unfolding both
 param_known a b c d e g = record {
-  byte = ltb-so (param_flags a b c d e g) 256 (each6 (λ a b c d e g. nat_lt (param_flags a b c d e g) 256) refl a b c d e g);
-  known_alone = eqb-true (bit_and (param_flags a b c d e g) param_bits) (param_flags a b c d e g) (each6 (λ a b c d e g. bit_and (param_flags a b c d e g) param_bits == param_flags a b c d e g) refl a b c d e g);
+  byte = ltb-so (param_flags a b c d e g) 256
+      (each6 (λ a b c d e g. nat_lt (param_flags a b c d e g) 256) refl a b c d e g);
+  known_alone =
+      eqb-true (bit_and (param_flags a b c d e g) param_bits) (param_flags a b c d e g)
+      (each6 (λ a b c d e g. bit_and (param_flags a b c d e g) param_bits == param_flags a b c d e
+      g) refl a b c d e g);
 }
 
 pub method_known : (a b c d e g : Bool) → AreKnownBits method_bits (method_flags a b c d e g)
 unfolding both
 method_known a b c d e g = record {
-  byte = ltb-so (method_flags a b c d e g) 256 (each6 (λ a b c d e g. nat_lt (method_flags a b c d e g) 256) refl a b c d e g);
-  known_alone = eqb-true (bit_and (method_flags a b c d e g) method_bits) (method_flags a b c d e g) (each6 (λ a b c d e g. bit_and (method_flags a b c d e g) method_bits == method_flags a b c d e g) refl a b c d e g);
+  byte = ltb-so (method_flags a b c d e g) 256
+      (each6 (λ a b c d e g. nat_lt (method_flags a b c d e g) 256) refl a b c d e g);
+  known_alone =
+      eqb-true (bit_and (method_flags a b c d e g) method_bits) (method_flags a b c d e g)
+      (each6 (λ a b c d e g. bit_and (method_flags a b c d e g) method_bits == method_flags a b c d
+      e g) refl a b c d e g);
 }

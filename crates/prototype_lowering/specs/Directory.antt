@@ -1,5 +1,5 @@
 -- The directory of a scope: the order in which a typelib has its interfaces.
-use Rattle.std.specs.Prelude.{ℕ, suc, ◌+◌, List, [], ◌∷◌, replicate, slice_get, nat_eq, Option, Some, None, if◌then◌else◌}
+use Rattle.std.specs.Prelude.{ℕ, suc, ◌+◌, List, [], ◌∷◌, slice_get, nat_eq, Option, Some, None, if◌then◌else◌}
 use Rattle.std.specs.List.{filter_map, position_or_len}
 use Rattle.std.specs.declared.cmp.Ordering.{Ordering}
 use Rattle.std.specs.Ordering.{nat_cmp, ordering_then}
@@ -7,11 +7,9 @@ use Rattle.std.specs.Cmp.Lexicographic.{slice_cmp}
 use Rattle.std_collections.specs.BTreeMap.{insert_entry}
 use Rattle.std_collections.specs.Map.{values_of}
 use Rattle.idl_meaning.specs.declared.scope.ScopeIface.{ScopeIface}
+use Rattle.idl_meaning.specs.Scopes.{zero_iid}
 
--- the identifier of an interface that is declared alone
-abbrev pub zero_iid : List ℕ
-zero_iid = replicate 16 0
-
+-- the identifier of an interface: zero where it is declared alone
 abbrev pub iid_of : ScopeIface → List ℕ
 iid_of i = if i.defined then i.iid else zero_iid
 

@@ -2,6 +2,5 @@ pub mod Directory
 pub mod Lowering
 pub mod StaticTable
 pub mod Limits
-pub mod Lowerable
 pub mod Numbering
 pub mod Marked

@@ -32,7 +32,8 @@ is_wide_found (Some m) = is_wide m
 -- the member at a place of an interface has too many
 abbrev pub is_wide_at : List ScopeIface → ℕ → ℕ → Bool
 is_wide_at ifaces k place =
-    is_wide_found (option_and_then (λ (i : ScopeIface). slice_get i.members place) (slice_get ifaces k))
+    is_wide_found
+    (option_and_then (λ (i : ScopeIface). slice_get i.members place) (slice_get ifaces k))
 
 abbrev pub NoneIsWide : List ScopeIface → Type 0
 NoneIsWide ifaces = (k place : ℕ) → is_wide_at ifaces k place ≡ false
@@ -90,6 +91,6 @@ IsLowerFault s error.Interfaces = HasManyInterfaces s.ifaces
 IsLowerFault s error.Items = HasManyItems s
 IsLowerFault s error.Memory = Unit {0}
 
--- the table that the flags and tags of its library give is the table that the scope means
-abbrev pub HasItsTable : Scope → Type 0
-HasItsTable s = table_of (library_of s) ≡ static_table s
+-- the table that the flags and tags of a library give is the table that the scope means
+abbrev pub HasTableOf : Scope → Library → Type 0
+HasTableOf s library = table_of library ≡ static_table s

@@ -14,6 +14,7 @@ use Rattle.idl_meaning.specs.declared.scope.ScopeBody.TheVariants as body
 use Rattle.idl_meaning.specs.declared.scope.ScopeIface.{ScopeIface}
 use Rattle.idl_meaning.specs.declared.scope.ScopeMember.{ScopeMember}
 use Rattle.idl_meaning.specs.declared.scope.ScopeParam.{ScopeParam}
+use Rattle.idl_meaning.specs.Attributes.{bit}
 use Rattle.idl_meaning.specs.Meaning.{is_class}
 use Rattle.lib_model.specs.declared.contents.Body.{Body}
 use Rattle.lib_model.specs.declared.contents.Constant.{Constant}
@@ -33,10 +34,6 @@ use Rattle.prototype_lowering.specs.Directory.{directory_of, iid_of, in_order, n
 
 -- ---- flags
 
--- a bit that is set or not
-abbrev pub bit : ℕ → Bool → ℕ
-bit n set = if set then n else 0
-
 abbrev pub param_flags : Bool → Bool → Bool → Bool → Bool → Bool → ℕ
 param_flags inward outward retval shared dipper optional =
     bit IN.bits inward + bit OUT.bits outward + bit RETVAL.bits retval + bit SHARED.bits shared
@@ -44,11 +41,11 @@ param_flags inward outward retval shared dipper optional =
 
 abbrev pub method_flags : Bool → Bool → Bool → Bool → Bool → Bool → ℕ
 method_flags getter setter notxpcom hidden argc context =
-    bit GETTER.bits getter + bit SETTER.bits setter + bit NOTXPCOM.bits notxpcom + bit HIDDEN.bits hidden
-    + bit OPTIONAL_ARGC.bits argc + bit IMPLICIT_JSCONTEXT.bits context
+    bit GETTER.bits getter + bit SETTER.bits setter + bit NOTXPCOM.bits notxpcom
+    + bit HIDDEN.bits hidden + bit OPTIONAL_ARGC.bits argc + bit IMPLICIT_JSCONTEXT.bits context
 
--- A string class is never passed out by a cell: the caller makes the string, whose address is passed in, and the callee
--- writes into it. It is then a dipper.
+-- A string class is never passed out by a cell: the caller makes the string, whose address is passed
+-- in, and the callee writes into it. It is then a dipper.
 abbrev pub goes_in : Dir → Bool → Bool
 goes_in Inward class = true
 goes_in Outward class = class
@@ -67,14 +64,16 @@ is_dipper Both class = false
 -- by the direction, whether it is a string class, and the marks retval, shared and optional
 abbrev pub flags_by : Dir → Bool → Bool → Bool → Bool → ℕ
 flags_by dir class retval shared optional =
-    param_flags (goes_in dir class) (goes_out dir class) retval shared (is_dipper dir class) optional
+    param_flags (goes_in dir class) (goes_out dir class) retval shared (is_dipper dir class)
+    optional
 
 abbrev pub flags_of : ScopeParam → ℕ
 flags_of p = flags_by p.dir (is_class p.ty) p.retval p.shared p.optional
 
 -- ---- types
 
--- the numbers of the parameters that tell the size, and how much of it is in use: the size where nothing else tells that
+-- the numbers of the parameters that tell the size, and how much of it is in use: the size where
+-- nothing else tells that
 abbrev pub size_of : ScopeParam → ℕ
 size_of p = unwrap_or p.size 0
 
@@ -101,7 +100,8 @@ elem_of d (meant.StringClass tag) iid = elems.Plain tag
 elem_of d meant.JsVal iid = elems.Plain tags.JSVAL
 elem_of d (meant.Native name) iid = native_elem iid
 
--- the type of a parameter that is no array has the form of an element's, but for strings whose size is told
+-- the type of a parameter that is no array has the form of an element's, but for strings whose size
+-- is told
 abbrev pub alone : Elem → XType
 alone (elems.Plain tag) = types.Plain tag
 alone (elems.Iface k) = types.Iface k

@@ -1,6 +1,6 @@
 -- What the code keeps of a directory, and what it asks of what it lowers.
-use Rattle.std.specs.Prelude.{◌≡◌, ℕ, ◌<◌, ◌++◌, List, length, map, slice_get, slice_index, Option, IfSome, All}
-use Rattle.std.specs.List.{filter_map}
+use Rattle.std.specs.Prelude.{◌≡◌, ℕ, ◌<◌, ◌++◌, List, length, map, nat_eq, slice_get, slice_index, Option, IfSome, All}
+use Rattle.std.specs.List.{filter_map, position_or_len}
 use Rattle.idl_meaning.specs.declared.scope.Meant.{Meant}
 use Rattle.idl_meaning.specs.declared.scope.Meant.TheVariants as meant
 use Rattle.idl_meaning.specs.declared.scope.ScopeBody.{ScopeBody}
@@ -8,17 +8,24 @@ use Rattle.idl_meaning.specs.declared.scope.ScopeBody.TheVariants as body
 use Rattle.idl_meaning.specs.declared.scope.ScopeIface.{ScopeIface}
 use Rattle.idl_meaning.specs.declared.scope.ScopeMember.{ScopeMember}
 use Rattle.idl_meaning.specs.declared.scope.ScopeParam.{ScopeParam}
+use Rattle.lib_model.specs.declared.contents.Body.{Body}
 use Rattle.lib_model.specs.declared.contents.Iface.{Iface}
 use Rattle.lib_model.specs.declared.contents.Method.{Method}
 use Rattle.lib_model.specs.declared.param_types.Param.{Param}
 use Rattle.vtable_layout.specs.Slots.{Slot}
 use Rattle.prototype_lowering.specs.Directory.{number}
-use Rattle.prototype_lowering.specs.Lowering.{iface_of, method_of, param_of}
+use Rattle.prototype_lowering.specs.Lowering.{body_of, iface_of, method_of, param_of}
 
 -- the number of each interface in a directory, by its number in the scope
 abbrev pub IsNumberingOf : List ℕ → List ℕ → Type 0
 IsNumberingOf directory numbers =
     (k : ℕ) → k < length numbers → slice_index numbers k ≡ number directory k
+
+-- the number of each interface that the directory has
+abbrev pub HasItsNumbers : List ℕ → List ℕ → Type 0
+HasItsNumbers directory numbers =
+    (k : ℕ) → position_or_len (nat_eq k) directory < length directory
+    → slice_index numbers k ≡ number directory k
 
 -- what is so in each directory that these numbers are of
 abbrev pub InEachDirectory : List ℕ → (List ℕ → Type 0) → Type 0
@@ -41,6 +48,13 @@ AreMethodsOf numbers ss lowered = InEachDirectory numbers (λ d. lowered ≡ map
 abbrev pub GainsMethodsOf : List ℕ → List Slot → List Method → List Method → Type 0
 GainsMethodsOf numbers ss before after =
     InEachDirectory numbers (λ d. after ≡ before ++ map (method_of d) ss)
+
+-- what is lowered from an interface, and what it consists of
+abbrev pub IsIfaceOf : List ℕ → ScopeIface → Iface → Type 0
+IsIfaceOf numbers i lowered = InEachDirectory numbers (λ d. lowered ≡ iface_of d i)
+
+abbrev pub IsBodyOf : List ℕ → ScopeIface → Body → Type 0
+IsBodyOf numbers i lowered = InEachDirectory numbers (λ d. lowered ≡ body_of d i)
 
 -- the interfaces of these numbers
 abbrev pub AreIfacesAt : List ℕ → List ScopeIface → List ℕ → List Iface → Type 0

@@ -1,5 +1,6 @@
--- The table of a scope: what its interfaces and members are to a caller, in the words of the IDL alone. No flag and no tag
--- of a typelib occurs in it but the tag by which the scope names a basic type.
+-- The table of a scope: what its interfaces and members are to a caller, in the words of the IDL
+-- alone. No flag and no tag of a typelib occurs in it but the tag by which the scope names a basic
+-- type.
 use Rattle.std.specs.Prelude.{ℕ, ◌+◌, ◌==◌, ◌&&◌, Bool, true, false, not, nat_lt, List, [], ◌∷◌, ◌++◌, length, map, Option, Some, None, is_none, if◌then◌else◌}
 use Rattle.std.specs.List.{list_any}
 use Rattle.xp_base.specs.declared.kinds.Dir.{Dir}
@@ -70,7 +71,8 @@ is_method kind.Set = false
 abbrev pub first : Slot → List ProtoArg
 first s = if s.context && not (is_method s.kind) then context_arg ∷ [] else []
 
--- before the value, or at the end, stand the context of a method and the number of optional arguments
+-- before the value, or at the end, stand the context of a method and the number of optional
+-- arguments
 abbrev pub middle : Slot → List ProtoArg
 middle s =
     (if s.context && is_method s.kind then context_arg ∷ [] else [])
@@ -123,7 +125,9 @@ arg_of d s p = record {
 }
 
 unfoldable pub proto_of : List ℕ → Slot → List ProtoArg
-proto_of d s = first s ++ (map (arg_of d s) (front s.params) ++ (middle s ++ map (arg_of d s) (back s.params)))
+proto_of d s =
+    first s
+    ++ (map (arg_of d s) (front s.params) ++ (middle s ++ map (arg_of d s) (back s.params)))
 
 -- ---- slots
 

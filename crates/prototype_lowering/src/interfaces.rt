@@ -3,8 +3,7 @@
 ghost use Rattle.std.specs.Prelude.{◌≡◌, ◌<◌, ℕ, List, All, IfOk, IfSome, length, map, slice_get};
 ghost use Rattle.std.specs.List.{filter_map};
 ghost use Rattle.prototype_lowering.specs.Directory as directory;
-ghost use Rattle.prototype_lowering.specs.Lowering as lowering;
-ghost use Rattle.prototype_lowering.specs.Numbering.{AreIfacesAt, InEachDirectory, IsSayableIface};
+ghost use Rattle.prototype_lowering.specs.Numbering.{AreIfacesAt, InEachDirectory, IsBodyOf, IsIfaceOf, IsSayableIface};
 
 use crate::members::{lower_constants, lower_methods};
 use crate::param_types::number_of;
@@ -34,7 +33,7 @@ pub(crate) fn iid_of(iface: &ScopeIface) -> [u8; 16]
 /// What a defined interface consists of.
 fn lower_body(alloc: Global, numbers: &[u16], iface: &ScopeIface) -> Result<Body, Memory>
     requires { IsSayableIface (length numbers.now) iface.now }
-    ensures { IfOk result (λ b. InEachDirectory numbers.now (λ d. b ≡ lowering.body_of d iface.now)) }
+    ensures { IfOk result (IsBodyOf numbers.now iface.now) }
 {
     let members = iface.members.as_slice();
     Ok(Body {
@@ -48,7 +47,7 @@ fn lower_body(alloc: Global, numbers: &[u16], iface: &ScopeIface) -> Result<Body
 /// An interface.
 fn lower_iface(alloc: Global, numbers: &[u16], iface: &ScopeIface) -> Result<Iface, Memory>
     requires { IsSayableIface (length numbers.now) iface.now }
-    ensures { IfOk result (λ f. InEachDirectory numbers.now (λ d. f ≡ lowering.iface_of d iface.now)) }
+    ensures { IfOk result (IsIfaceOf numbers.now iface.now) }
 {
     let name = Bytes::copy(alloc, iface.name.as_slice())?;
     let iid = iid_of(iface);

@@ -1,9 +1,9 @@
 //! The library of a scope.
 
 ghost use Rattle.std.specs.Prelude.{◌≡◌, ◌≤◌, IfErr, IfOk, OnOk, length};
+ghost use Rattle.idl_meaning.specs.Accepted.{IsAcceptedScope};
 ghost use Rattle.lib_model.specs.Valid.{IsValid};
-ghost use Rattle.prototype_lowering.specs.Limits.{HasItsTable, IsLowerFault, KeepsLimits, NoneIsWide};
-ghost use Rattle.prototype_lowering.specs.Lowerable.{IsLowerable};
+ghost use Rattle.prototype_lowering.specs.Limits.{HasTableOf, IsLowerFault, KeepsLimits, NoneIsWide};
 ghost use Rattle.prototype_lowering.specs.Lowering.{library_of};
 ghost use Rattle.vtable_layout.specs.Layout.{AreSlotsOf};
 
@@ -23,7 +23,7 @@ const MAX_INTERFACES: usize = 65_535;
 
 /// The library of a scope with few interfaces, whose methods have few parameters.
 fn build(alloc: Global, scope: &Scope) -> Result<Library, Memory>
-    requires lowerable { IsLowerable scope.now }
+    requires accepted { IsAcceptedScope scope.now }
     requires narrow { NoneIsWide scope.now.ifaces }
     requires few { length scope.now.ifaces ≤ 65535 }
     ensures { IfOk result (λ library. library ≡ library_of scope.now) }
@@ -42,12 +42,12 @@ fn build(alloc: Global, scope: &Scope) -> Result<Library, Memory>
 /// the members mean as they are written. The errors come exactly where they hold, the first of
 /// them in the order in which `LowerError` has them; but for `Memory`, which is want of memory.
 pub fn lower(alloc: Global, scope: &Scope, _slots: &Slots) -> Result<Library, LowerError>
-    requires lowerable { IsLowerable scope.now }
+    requires accepted { IsAcceptedScope scope.now }
     requires slots { AreSlotsOf scope.now.ifaces _slots.now }
     ensures library { IfOk result (λ library. library ≡ library_of scope.now) }
     ensures limits { OnOk result (KeepsLimits scope.now) }
-    ensures valid { OnOk result (IsValid (library_of scope.now)) }
-    ensures table { OnOk result (HasItsTable scope.now) }
+    ensures valid { IfOk result IsValid }
+    ensures table { IfOk result (HasTableOf scope.now) }
     ensures fault { IfErr result (IsLowerFault scope.now) }
 {
     if let Some((iface, member)) = find_wide(scope.ifaces.as_slice()) {

@@ -4,7 +4,7 @@ ghost use Rattle.std.specs.Prelude.{◌≡◌, ℕ, List, [], ◌∷◌, ◌++�
 ghost use Rattle.std.specs.List.{flat_map};
 ghost use Rattle.prototype_lowering.specs.Lowering as lowering;
 ghost use Rattle.prototype_lowering.specs.Numbering.{AreMethodsOf, AreParamsOf, GainsMethodsOf, IsKnown, IsMethodOf, IsParamOf, IsSayable, IsSayableBody};
-ghost use Rattle.prototype_lowering.specs.Marked.{flags_with};
+ghost use Rattle.prototype_lowering.specs.Marked.{method_with};
 ghost use Rattle.vtable_layout.specs.Slots as slots;
 ghost use Rattle.vtable_layout.specs.Slots.{slots_of_member};
 
@@ -70,7 +70,8 @@ fn method_params(
 ) -> Result<List<Param>, Memory>
     requires sayable { All (IsSayable (length numbers.now)) params.now }
     requires known { IfSome returns.now (IsKnown (length numbers.now)) }
-    ensures { IfOk result (AreParamsOf numbers.now (params.now ++ slots.given notxpcom returns.now)) }
+    ensures { IfOk result (AreParamsOf numbers.now
+        (params.now ++ slots.given notxpcom returns.now)) }
 {
     let mut lowered = written_params(alloc, numbers, params)?;
     if notxpcom {
@@ -90,7 +91,7 @@ fn lower_slot(
     marks: Marks,
     params: List<Param>,
 ) -> Result<Method, Memory>
-    ensures { IfOk result (λ m. m ≡ record { name = name.now; flags = record { bits = flags_with kind marks }; params = params }) }
+    ensures { IfOk result (λ m. m ≡ method_with name.now kind marks params) }
 {
     Ok(Method {
         name: Bytes::copy(alloc, name.as_slice())?,
@@ -109,7 +110,8 @@ fn lower_getter(
 ) -> Result<Method, Memory>
     requires known { IsKnown (length numbers.now) ty.now }
     requires plain { marks.argc ≡ false }
-    ensures { IfOk result (IsMethodOf numbers.now (slots.getter name.now marks.hidden marks.notxpcom marks.context ty.now)) }
+    ensures { IfOk result (IsMethodOf numbers.now
+        (slots.getter name.now marks.hidden marks.notxpcom marks.context ty.now)) }
 {
     let mut params = List::new(alloc);
     if !marks.notxpcom {
@@ -128,7 +130,8 @@ fn lower_setter(
 ) -> Result<Method, Memory>
     requires known { IsKnown (length numbers.now) ty.now }
     requires plain { marks.argc ≡ false }
-    ensures { IfOk result (IsMethodOf numbers.now (slots.setter name.now marks.hidden marks.notxpcom marks.context ty.now)) }
+    ensures { IfOk result (IsMethodOf numbers.now
+        (slots.setter name.now marks.hidden marks.notxpcom marks.context ty.now)) }
 {
     let mut params = List::new(alloc);
     params.push(value_param(numbers, ty))?;
@@ -143,7 +146,8 @@ fn push_methods(
     member: &ScopeMember,
 ) -> Result<(), Memory>
     requires { IsSayableBody (length numbers.now) member.now.body }
-    ensures { OnOk result (GainsMethodsOf numbers.now (slots_of_member member.now) methods.old methods.new) }
+    ensures { OnOk result
+        (GainsMethodsOf numbers.now (slots_of_member member.now) methods.old methods.new) }
 {
     let name = &member.name;
     match &member.body {
@@ -226,7 +230,8 @@ pub(crate) fn lower_constants(
     alloc: Global,
     members: &[ScopeMember],
 ) -> Result<List<Constant>, Memory>
-    ensures { IfOk result (λ constants. constants ≡ flat_map lowering.constants_of_member members.now) }
+    ensures { IfOk result
+        (λ constants. constants ≡ flat_map lowering.constants_of_member members.now) }
 {
     let mut constants = List::new(alloc);
     for member in members {

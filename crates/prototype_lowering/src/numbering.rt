@@ -1,15 +1,14 @@
 //! The number in the typelib of each interface of a scope.
 
-ghost use Rattle.std.specs.Prelude.{◌≡◌, ◌<◌, ◌≤◌, ℕ, All, IfOk, length, nat_eq, slice_index};
-ghost use Rattle.std.specs.List.{position_or_len};
-ghost use Rattle.prototype_lowering.specs.Directory.{number};
+ghost use Rattle.std.specs.Prelude.{◌<◌, ◌≤◌, All, length};
+ghost use Rattle.prototype_lowering.specs.Numbering.{HasItsNumbers};
 
 /// Writes the numbers, counted from 1, of the interfaces in this order: each by its number in the
 /// scope.
 pub(crate) fn write_numbers(numbers: &mut [u16], order: &[u32])
     requires few { length order.now ≤ 65535 }
     requires within { All (λ k. k < length numbers.old) order.now }
-    ensures { (k : ℕ) → position_or_len (nat_eq k) order.now < length order.now → slice_index numbers.new k ≡ number order.now k }
+    ensures { HasItsNumbers order.now numbers.new }
 {
     let mut place = order.len();
     while place > 0 {

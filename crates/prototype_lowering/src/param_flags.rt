@@ -1,6 +1,7 @@
 //! The flags of a lowered parameter.
 
 ghost use Rattle.std.specs.Prelude.{◌≡◌, ◌≤◌};
+ghost use Rattle.idl_meaning.specs.Attributes as attributes;
 ghost use Rattle.idl_meaning.specs.Meaning as meaning;
 ghost use Rattle.prototype_lowering.specs.Lowering as lowering;
 
@@ -10,7 +11,7 @@ use xp_base::Dir;
 
 /// A bit that is set or not.
 pub(crate) fn bit(bit: u8, set: bool) -> u8
-    ensures bit { result ≡ lowering.bit bit set }
+    ensures bit { result ≡ attributes.bit bit set }
     ensures small { result ≤ bit }
 {
     if set { bit } else { 0 }

@@ -8,7 +8,8 @@ use Rattle.vtable_layout.specs.Slots.{chain_of, inherited, own_of, slots_of}
 
 -- more than 250 interfaces in the chain of parents, or more than 250 slots
 abbrev pub has_too_many : List ScopeIface → ℕ → Bool
-has_too_many ifaces k = nat_lt 250 (length (chain_of ifaces k)) || nat_lt 250 (length (slots_of ifaces k))
+has_too_many ifaces k =
+    nat_lt 250 (length (chain_of ifaces k)) || nat_lt 250 (length (slots_of ifaces k))
 
 -- the number of slots, where it and the parents are not too many
 abbrev pub slot_count : List ScopeIface → ℕ → Option ℕ

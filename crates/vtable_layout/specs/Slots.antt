@@ -1,4 +1,5 @@
--- The slots of a scope's interfaces, which are the entries of their virtual tables in XPCOM, as lists.
+-- The slots of a scope's interfaces, which are the entries of their virtual tables in XPCOM, as
+-- lists.
 use Rattle.std.specs.Prelude.{ℕ, zero, suc, Bool, true, false, List, [], ◌∷◌, ◌++◌, take, length, ◌+◌, slice_get, Option, Some, None, option_and_then, if◌then◌else◌}
 use Rattle.std.specs.List.{flat_map}
 use Rattle.xp_base.specs.declared.kinds.Dir.TheVariants.{Inward, Outward}
@@ -11,8 +12,8 @@ use Rattle.idl_meaning.specs.declared.scope.ScopeIface.{ScopeIface}
 use Rattle.idl_meaning.specs.declared.scope.ScopeMember.{ScopeMember}
 use Rattle.idl_meaning.specs.declared.scope.ScopeParam.{ScopeParam}
 
--- What stands in a slot: a method, or the reading or the writing half of an attribute. A value that it gives is the last
--- of its parameters.
+-- What stands in a slot: a method, or the reading or the writing half of an attribute. A value that
+-- it gives is the last of its parameters.
 pub record Slot : Type 0 where
   pub name : List ℕ
   pub kind : MemberKind
@@ -54,7 +55,8 @@ value_param name ty = record {
   optional = false;
 }
 
--- The value that a member returns. What is `notxpcom` returns it directly, and has no parameter for it.
+-- The value that a member returns. What is `notxpcom` returns it directly, and has no parameter for
+-- it.
 abbrev pub given : Bool → Option Meant → List ScopeParam
 given true ty = []
 given false None = []
@@ -138,8 +140,8 @@ slots_within ifaces zero k = []
 slots_within ifaces (suc n) k =
     above (slots_within ifaces n) (parent_of ifaces k) ++ own_of ifaces k
 
--- The chain of parents and the slots of an interface. A chain may have 250 interfaces; of one that has more or comes back to
--- itself these are the first 251.
+-- The chain of parents and the slots of an interface. A chain may have 250 interfaces; of one that
+-- has more or comes back to itself these are the first 251.
 abbrev pub chain_of : List ScopeIface → ℕ → List ℕ
 chain_of ifaces k = chain_within ifaces 251 k
 
@@ -161,10 +163,12 @@ first_from before (s ∷ slots) = Some before
 abbrev pub slot_behind : ℕ → List ScopeMember → ℕ → Option ℕ
 slot_behind first members place =
     option_and_then
-    (λ m. first_from (first + length (flat_map slots_of_member (take place members))) (slots_of_member m))
+    (λ m. first_from (first + length (flat_map slots_of_member (take place members)))
+    (slots_of_member m))
     (slice_get members place)
 
 -- the first slot of a member: none where there is no such interface or member, or it is a constant
 abbrev pub slot_number : List ScopeIface → ℕ → ℕ → Option ℕ
 slot_number ifaces k place =
-    option_and_then (λ i. slot_behind (length (inherited ifaces k)) i.members place) (slice_get ifaces k)
+    option_and_then (λ i. slot_behind (length (inherited ifaces k)) i.members place)
+    (slice_get ifaces k)

@@ -1,7 +1,8 @@
-//! The slots of the interfaces of a scope: which entry of an interface's virtual table a member has.
+//! The slots of the interfaces of a scope: which entry of an interface's virtual table a member
+//! has.
 //!
-//! The parent's slots come first and then the interface's own, in the order in which its members are written (XPCOM).
-//! `layout` counts them, `slot_of` finds the one of a member.
+//! The parent's slots come first and then the interface's own, in the order in which its members
+//! are written (XPCOM). `layout` counts them, `slot_of` finds the one of a member.
 #![tactic(auto)]
 
 mod own_slots;

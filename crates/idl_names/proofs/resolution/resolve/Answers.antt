@@ -13,7 +13,7 @@ pub returns-in-Ok-clause-accepted : goal.returns-in-Ok-clause-accepted
 returns-in-Ok-clause-accepted c = none-is_fault c.args.files.now c.in-Ok.ensures.none
 
 pub returns-in-Ok-clause-sound : goal.returns-in-Ok-clause-sound
-returns-in-Ok-clause-sound c = subst (λ (s : Scope). IsAcceptedScope s) (sym c.in-Ok.ensures.scope) (scope-accepted c.args.files.now c.requires.lawful c.in-Ok.ensures.none)
+returns-in-Ok-clause-sound c = subst (λ (s : Scope). IsAcceptedScope s) (sym c.in-Ok.ensures.scope) (scope-accepted c.args.files.now c.requires.lawful c.requires.items c.in-Ok.ensures.none)
 
 pub returns-in-Err-clause-least : goal.returns-in-Err-clause-least
 returns-in-Err-clause-least c = first-is_least c.args.files.now c.in-Err.error c.in-Err.ensures.fault

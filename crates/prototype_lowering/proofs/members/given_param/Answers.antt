@@ -6,6 +6,12 @@ use Rattle.prototype_lowering.proofs.members.given_param.Goals as goal
 
 pub returns : goal.returns
 returns c = λ d numbered j. record {
-  flags = (c.flags_by.ensures ∙ (λ i. record { bits = param_flags (goes_in Outward (c.is_class.ensures i)) (goes_out Outward (c.is_class.ensures i)) true false (is_dipper Outward (c.is_class.ensures i)) false })) j;
-  ty = (c.alone.ensures ∙ ap alone (c.elem_of.ensures d numbered) ∙ sym (lone_types d [] c.args.ty.now).given) j;
+  flags = (c.flags_by.ensures
+      ∙ (λ i. record {
+        bits = param_flags (goes_in Outward (c.is_class.ensures i))
+            (goes_out Outward (c.is_class.ensures i)) true false
+            (is_dipper Outward (c.is_class.ensures i)) false;
+      })) j;
+  ty = (c.alone.ensures ∙ ap alone (c.elem_of.ensures d numbered)
+      ∙ sym (lone_types d [] c.args.ty.now).given) j;
 }

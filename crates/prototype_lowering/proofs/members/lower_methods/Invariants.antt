@@ -6,4 +6,6 @@ use Rattle.prototype_lowering.specs.Numbering.{IsNumberingOf}
 use Rattle.prototype_lowering.proofs.members.lower_methods.Given as goal
 
 abbrev pub invariant-loop-member : goal.invariant-loop-member
-invariant-loop-member l = (d : List ℕ) → IsNumberingOf d l.numbers → l.methods ≡ map (method_of d) (flat_map slots_of_member (take l.member-index l.members))
+invariant-loop-member l =
+    (d : List ℕ) → IsNumberingOf d l.numbers
+    → l.methods ≡ map (method_of d) (flat_map slots_of_member (take l.member-index l.members))

@@ -6,4 +6,8 @@ pub returns : goal.returns
 returns c =
     let whole : c.loop-iface.iface-index ≡ length c.args.ifaces.now = omega arith
     in counts_own c.args.ifaces.now c.loop-iface.counts
-    (record { as_many = omega (arith, c.loop-iface.invariant.as_many); each = λ k h. c.loop-iface.invariant.each k (omega (arith, h)) })
+    (record {
+      as_many = omega (arith, c.loop-iface.invariant.as_many);
+      each =
+          λ k h. c.loop-iface.invariant.each k (omega (arith, h));
+    })
