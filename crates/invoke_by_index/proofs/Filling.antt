@@ -4,7 +4,6 @@ use Rattle.std.specs.List.{range_with_len}
 use Rattle.std.proofs.lemmas.List.{length_push, take_at}
 use Rattle.std.proofs.lemmas.List.FromFn.{length-map-range_with_len, map-range_with_len_more}
 use Rattle.std.proofs.Math.Seq.{get_or-append_seam}
-use Rattle.call_model.specs.declared.places.Conv.{Conv}
 use Rattle.call_model.specs.declared.prototypes.ProtoArg.{ProtoArg}
 use Rattle.object_memory.specs.declared.layout.TheConstants.{CELLS_AT}
 use Rattle.object_memory.specs.Memory.{MachineView, InCells, with_cells}

@@ -1,5 +1,5 @@
 -- What is known of arguments that were judged in order, one more at a time.
-use Rattle.std.proofs.Common.{◌≡◌, ℕ, zero, suc, ◌+◌, ◌-◌, ◌<◌, ◌≤◌, ◌⊎◌, inl, inr, Bool, true, false, cond, not, ◌&&◌, ◌||◌, List, [], ◌∷◌, ◌++◌, length, take, get_or, refl, sym, ap, ◌∙◌, arith, Option, Some, None}
+use Rattle.std.proofs.Common.{◌≡◌, ℕ, zero, suc, ◌+◌, ◌-◌, ◌<◌, ◌≤◌, ◌⊎◌, inl, inr, Bool, true, false, cond, not, ◌&&◌, ◌||◌, List, [], ◌∷◌, ◌++◌, length, take, refl, sym, ap, ◌∙◌, arith, Option, Some, None}
 use Rattle.std.specs.Prelude.{◌==◌, if◌then◌else◌, find, count_by}
 use Rattle.std.specs.List.{list_any, range_with_len, sum_by}
 use Rattle.std.specs.Option.{option_map, option_or}
@@ -11,7 +11,6 @@ use Rattle.call_model.specs.declared.places.Conv.{Conv}
 use Rattle.call_model.specs.declared.prototypes.ProtoArg.{ProtoArg}
 use Rattle.invoke_by_index.specs.declared.args.Arg.{Arg}
 use Rattle.invoke_by_index.specs.declared.args.Arg.TheVariants.{Absent}
-use Rattle.invoke_by_index.specs.declared.args.ArgFault.{ArgFault}
 use Rattle.invoke_by_index.specs.declared.args.ArgFault.TheVariants.{Count, Form, Range}
 use Rattle.invoke_by_index.specs.Arguments.{arg_fault, first_failing, given_at, has_form, has_range, is_absent, is_given, number_in, parameters, proto_at, takes_form}
 use Rattle.invoke_by_index.specs.Ranges.{in_range}

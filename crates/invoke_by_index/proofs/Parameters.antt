@@ -1,12 +1,11 @@
 -- The parameters of a prototype, one more at a time, and those of a method.
-use Rattle.std.proofs.Common.{◌≡◌, ℕ, ◌+◌, ◌≤◌, Bool, true, false, cond, not, ◌&&◌, List, [], ◌∷◌, ◌++◌, length, map, take, drop, get_or, refl, sym, ap, ◌∙◌, arith, length-append}
+use Rattle.std.proofs.Common.{◌≡◌, ℕ, ◌+◌, ◌≤◌, Bool, true, false, cond, not, ◌&&◌, List, [], ◌∷◌, ◌++◌, length, map, take, drop, refl, sym, ap, ◌∙◌, arith, length-append}
 use Rattle.std.specs.Prelude.{if◌then◌else◌}
 use Rattle.std.specs.List.{All}
-use Rattle.std.proofs.lemmas.List.{length-map, map-append, take-append-drop, append-nil}
-use Rattle.std.proofs.lemmas.List.Elements.{All-append, All-cons, All-get_or, All-nil, filter-append}
+use Rattle.std.proofs.lemmas.List.{length-map, map-append, take-append-drop}
+use Rattle.std.proofs.lemmas.List.Elements.{All-append, All-cons, All-nil, filter-append}
 use Rattle.std.proofs.Math.Seq.{get_or-append_seam}
 use mir.Val.{bool_byte}
-use Rattle.call_model.specs.declared.prototypes.Note.{Note}
 use Rattle.call_model.specs.declared.prototypes.Pass.TheVariants.{ByValue}
 use Rattle.call_model.specs.declared.prototypes.ProtoArg.{ProtoArg}
 use Rattle.call_model.specs.declared.prototypes.Status.{Status}
@@ -15,7 +14,7 @@ use Rattle.lib_model.specs.declared.contents.Method.{Method}
 use Rattle.lib_model.specs.declared.param_types.Param.{Param}
 use Rattle.lib_model.specs.declared.param_types.XType.{XType}
 use Rattle.lib_model.specs.declared.param_types.XType.TheVariants as types
-use Rattle.lib_model.specs.Table.{arg_of, context_arg, count_arg, first_args, middle_args, is_attribute, note_of, proto_if, proto_of, status_of, takes_context, takes_count, written_count}
+use Rattle.lib_model.specs.Table.{arg_of, context_arg, count_arg, first_args, middle_args, is_attribute, note_of, proto_if, proto_of, takes_context, takes_count, written_count}
 use Rattle.invoke_by_index.specs.Arguments.{is_added, parameters, proto_at, stands_for_param}
 
 length-one : (b : Bool) (a : ProtoArg) → length (cond b (a ∷ []) []) ≡ cond b 1 0

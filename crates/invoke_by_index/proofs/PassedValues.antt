@@ -14,7 +14,7 @@ use Rattle.call_model.specs.declared.prototypes.Pass.TheVariants.{ByValue, ByRef
 use Rattle.call_model.specs.declared.prototypes.ProtoArg.{ProtoArg}
 use Rattle.call_model.specs.Placement.{type_at}
 use Rattle.call_model.specs.Prototype.{passed_type, types_of}
-use Rattle.call_model.specs.Values.{canon, canon_all, frame_of, placed}
+use Rattle.call_model.specs.Values.{canon, canon_all, frame_of}
 use Rattle.call_model.proofs.Patterns.{canon-below, canon-canon}
 use Rattle.object_memory.specs.Memory.{MachineView, InCells, cell_bytes}
 use Rattle.xp_base.specs.LittleEndian.{number_of}

@@ -1,5 +1,5 @@
 -- The cells of a call on a machine: the numbers that they hold, and what a call passes from them.
-use Rattle.std.specs.Prelude.{◌≡◌, ℕ, ◌*◌, ◌∷◌, List, length}
+use Rattle.std.specs.Prelude.{◌≡◌, ℕ, ◌*◌, ◌∷◌, List}
 use Rattle.std.specs.List.{flat_map}
 use Rattle.call_model.specs.declared.prototypes.ProtoArg.{ProtoArg}
 use Rattle.call_model.specs.Prototype.{types_of}

@@ -1,6 +1,4 @@
-use Rattle.std.proofs.Common.{sym, ap, ◌∙◌}
 use Rattle.lib_model.specs.Table.{status_of}
-use Rattle.invoke_by_index.specs.Arguments.{arg_fault}
 use Rattle.invoke_by_index.specs.Methods.{prototype}
 use Rattle.invoke_by_index.proofs.AfterFilling.{cells-after, holds-after, passes-after, pushed-after}
 use Rattle.invoke_by_index.proofs.Parameters.{added-by-value}

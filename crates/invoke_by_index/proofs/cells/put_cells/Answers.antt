@@ -1,7 +1,6 @@
-use Rattle.std.proofs.Common.{◌≡◌, ℕ, ◌+◌, ◌≤◌, Bool, true, cond, refl, [], ◌∷◌, ◌++◌, length, sym, subst, ap, ◌∙◌, arith, append_assoc}
+use Rattle.std.proofs.Common.{◌≡◌, ℕ, ◌≤◌, Bool, cond, refl, [], ◌∷◌, ◌++◌, length, sym, subst, ap, ◌∙◌, arith, append_assoc}
 use Rattle.std.proofs.lemmas.List.{append-nil, length_push}
-use Rattle.object_memory.specs.Memory.{MachineView}
-use Rattle.invoke_by_index.specs.Arguments.{cell_at, cell_by, number_in, parameters, stands_for_param}
+use Rattle.invoke_by_index.specs.Arguments.{cell_at, cell_by, number_in, stands_for_param}
 use Rattle.invoke_by_index.specs.Methods.{prototype}
 use Rattle.invoke_by_index.specs.Ranges.{is_pattern}
 use Rattle.invoke_by_index.proofs.Filling.{filled-none, filled_to, next-filled, next-in-cells, next-number}

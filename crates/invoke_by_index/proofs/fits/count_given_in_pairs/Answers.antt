@@ -1,7 +1,7 @@
-use Rattle.std.proofs.Common.{◌≡◌, ℕ, ◌+◌, ◌<◌, ◌≤◌, ◌&&◌, ◌||◌, Bool, true, false, cond, not, [], ◌∷◌, ◌++◌, length, Option, Some, None, sym, subst, ap, ◌∙◌, arith, append_assoc}
+use Rattle.std.proofs.Common.{◌≡◌, ℕ, ◌+◌, ◌<◌, ◌&&◌, ◌||◌, Bool, true, false, cond, not, [], ◌∷◌, ◌++◌, length, Option, Some, None, sym, subst, ap, ◌∙◌, arith, append_assoc}
 use Rattle.std.specs.Prelude.{if◌then◌else◌}
 use Rattle.std.specs.Option.{option_or}
-use Rattle.invoke_by_index.specs.Arguments.{given_at, is_absent, number_in, parameters, proto_at, stands_for_param, takes_form}
+use Rattle.invoke_by_index.specs.Arguments.{is_absent, number_in, parameters, stands_for_param, takes_form}
 use Rattle.invoke_by_index.specs.Methods.{prototype}
 use Rattle.invoke_by_index.specs.Ranges.{in_range}
 use Rattle.invoke_by_index.proofs.FirstFaults.{Judged, fault-of-form, judged-more, misformed-here}
