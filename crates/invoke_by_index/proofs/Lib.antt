@@ -1,4 +1,10 @@
+pub mod AfterFilling
 pub mod CellValues
 pub mod Filled
+pub mod FilledCells
+pub mod Filling
+pub mod FirstFaults
+pub mod Fitting
 pub mod Parameters
+pub mod PassedValues
 pub mod Prototypes

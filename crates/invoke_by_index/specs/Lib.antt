@@ -1,4 +1,5 @@
 pub mod Arguments
 pub mod Calls
+pub mod Cells
 pub mod Methods
 pub mod Ranges

@@ -1,5 +1,5 @@
 -- Which numbers a C type takes.
-use Rattle.std.specs.Prelude.{ℕ, ◌-◌, ◌*◌, ◌^◌, ◌&&◌, Bool, ℤ, pos, neg_ℤ, int_le}
+use Rattle.std.specs.Prelude.{ℕ, ◌-◌, ◌*◌, ◌^◌, ◌<◌, ◌&&◌, Bool, ℤ, pos, neg_ℤ, int_le}
 use Rattle.call_model.specs.declared.ctypes.CType.{CType}
 use Rattle.call_model.specs.declared.ctypes.CType.TheVariants as c
 use Rattle.call_model.specs.declared.places.Conv.{Conv}
@@ -40,3 +40,11 @@ greatest conv c.Ptr = most_unsigned (8 * word_of conv)
 -- the numbers of a type
 abbrev pub in_range : Conv → CType → ℤ → Bool
 in_range conv t n = int_le (least t) n && int_le n (greatest conv t)
+
+-- a number that 64 bits hold, with a sign or without
+abbrev pub is_pattern : ℤ → Bool
+is_pattern n = int_le (neg_ℤ (pos (2 ^ 63))) n && int_le n (most_unsigned 64)
+
+-- a number that a word of the convention holds, as an address
+abbrev pub FitsWord : Conv → ℕ → Type 0
+FitsWord conv n = n < 2 ^ (8 * word_of conv)

@@ -1,8 +1,9 @@
-ghost use Rattle.std.specs.Prelude.{◌≡◌, ◌≤◌, length};
+ghost use Rattle.std.specs.Prelude.{◌≡◌, ◌≤◌, length, true};
 ghost use Rattle.invoke_by_index.specs.Arguments as arguments;
 ghost use Rattle.invoke_by_index.specs.Methods.{prototype};
+ghost use Rattle.invoke_by_index.specs.Ranges as ranges;
 
-use call_model::{Note, Pass, ProtoArg};
+use call_model::{Note, Pass, ProtoArg, Status};
 use descriptor_reader::MethodView;
 
 /// What is given for a parameter in a call.
@@ -37,6 +38,19 @@ impl Arg {
         match self {
             Arg::Value(number) | Arg::ValueCell(number) => number,
             Arg::Cell | Arg::Absent => 0,
+        }
+    }
+
+    /// The number that it gives, as 64 bits in two's complement. They hold it.
+    pub(crate) fn pattern(self) -> u64
+        requires { ranges.is_pattern (arguments.number_in self) ≡ true }
+        ensures { result ≡ arguments.pattern_of (arguments.number_in self) }
+    {
+        let number = self.number();
+        if number < 0 {
+            (number as i64).cast_unsigned()
+        } else {
+            number as u64
         }
     }
 
@@ -82,20 +96,30 @@ impl Arg {
 }
 
 /// Whether an argument of a prototype stands for a parameter, and is not added.
-fn stands_for_param(arg: ProtoArg) -> bool
+pub(crate) fn stands_for_param(arg: ProtoArg) -> bool
     ensures { result ≡ arguments.stands_for_param arg }
 {
     !matches!(arg.note, Note::Argc | Note::Context)
 }
 
-/// How many parameters a method has, by its prototype: as many arguments as a call is given.
+/// Argument `k` of those that were given: absent where there are not as many.
+pub(crate) fn given_at(args: &[Arg], k: usize) -> Arg
+    ensures { result ≡ arguments.given_at args.now k }
+{
+    match args.get(k) {
+        Some(arg) => *arg,
+        None => Arg::Absent,
+    }
+}
+
+/// How many parameters a method has, by its prototype: as many arguments as a call is given. One
+/// that may not be called has none.
 pub fn count_params(method: &MethodView<'_>) -> usize
     ensures count { result ≡ length (arguments.parameters (prototype method.now)) }
-    ensures few { result ≤ 257 }
+    ensures few { result ≤ 255 }
 {
-    let mut count = 0;
-    for arg in method.args() {
-        count += usize::from(stands_for_param(arg));
+    match method.status() {
+        Status::Callable => method.param_count() as usize,
+        Status::Hidden | Status::NotXpcom | Status::Opaque => 0,
     }
-    count
 }
