@@ -1,6 +1,9 @@
-//! What the object of a call does: it takes the values of the call back from the frame.
+//! What the object of a call does: it takes the call back from the frame, and hands its values to
+//! the one who answers.
 #![tactic(auto)]
 
+mod callees;
 mod recovery;
 
+pub use callees::Callee;
 pub use recovery::{FrameShort, recover};
