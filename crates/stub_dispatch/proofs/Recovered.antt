@@ -1,17 +1,15 @@
 -- What stands at the place of each argument, read back.
-use Rattle.std.proofs.Common.{◌≡◌, ℕ, zero, suc, ◌+◌, ◌*◌, ◌%◌, ◌^◌, ◌<◌, ◌≤◌, List, [], ◌∷◌, ◌++◌, length, map, take, drop, get_or, sym, subst, ap, ◌∙◌, refl, arith, ◌⊎◌, inl, inr}
-use Rattle.std.specs.List.{range_with_len, slice_index}
+use Rattle.std.proofs.Common.{◌≡◌, ℕ, zero, suc, ◌+◌, ◌*◌, ◌^◌, ◌<◌, ◌≤◌, List, ◌∷◌, ◌++◌, length, take, get_or, sym, subst, ap, ◌∙◌, refl, arith, ◌⊎◌, inl, inr}
 use Rattle.std.proofs.lemmas.List.{ext_get_or, get_or-set_other, get_or-set_same}
 use Rattle.std.proofs.lemmas.List.FromFn.{get_or-map-range_with_len, length-map-range_with_len}
 use Rattle.std.proofs.Math.Nat.{mod-eq_of_lt}
-use Rattle.std.proofs.Math.Seq.{split_at}
 use Rattle.call_model.specs.declared.ctypes.CType.{CType}
-use Rattle.call_model.specs.declared.ctypes.CType.TheVariants.{I8, Ptr}
+use Rattle.call_model.specs.declared.ctypes.CType.TheVariants.{Ptr}
 use Rattle.call_model.specs.declared.places.Conv.{Conv}
 use Rattle.call_model.specs.declared.places.Loc.{Loc}
 use Rattle.call_model.specs.declared.prototypes.ProtoArg.{ProtoArg}
-use Rattle.call_model.specs.Placement.{place, place_at, type_at, space_of, stack_len_of, PlacesWithin, IsWithin}
-use Rattle.call_model.specs.Prototype.{passed_type, types_of}
+use Rattle.call_model.specs.Placement.{place, type_at, space_of, stack_len_of, PlacesWithin, IsWithin}
+use Rattle.call_model.specs.Prototype.{types_of}
 use Rattle.call_model.specs.Values.{FrameView, Conforms, canon, canon_all, extended, own_at, own_len, received}
 use Rattle.call_model.specs.declared.places.Loc.TheVariants.{Gpr, Fpr, Stack}
 use Rattle.call_model.proofs.Conforming.{canon_all-at, length-canon_all, receives-canonical}

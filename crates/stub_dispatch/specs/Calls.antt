@@ -1,5 +1,5 @@
 -- A call, as the object that is called is handed it.
-use Rattle.std.specs.Prelude.{◌≡◌, ℕ, ◌+◌, ◌<◌, List, [], ◌∷◌, length, slice_get, slice_index, Some}
+use Rattle.std.specs.Prelude.{◌≡◌, ℕ, ◌+◌, ◌<◌, List, [], length, slice_get, slice_index, Some}
 use Rattle.call_model.specs.declared.ctypes.CType.TheVariants.{Ptr}
 use Rattle.call_model.specs.declared.places.Conv.{Conv}
 use Rattle.call_model.specs.declared.prototypes.ProtoArg.{ProtoArg}
@@ -32,11 +32,12 @@ this_in conv frame = own_at frame (word_of conv) (place conv [] Ptr)
 abbrev pub IsObject : MachineView → (address number : ℕ) → Type 0
 IsObject m address number = slice_get m.objects number ≡ Some address
 
+-- the call of a method of the object of this number, with these cells
+abbrev pub call_of : MethodOf → (object : ℕ) → (cells : List ℕ) → Call
+call_of method object cells =
+    record { object = object; slot = method.slot; proto = prototype method; cells = cells }
+
 -- the call of a method that a frame makes of the object of this number
 abbrev pub call_by : Conv → FrameView → MethodOf → (object : ℕ) → Call
-call_by conv frame method object = record {
-  object = object;
-  slot = method.slot;
-  proto = prototype method;
-  cells = received_cells conv (prototype method) frame;
-}
+call_by conv frame method object =
+    call_of method object (received_cells conv (prototype method) frame)

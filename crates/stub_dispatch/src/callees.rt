@@ -3,7 +3,7 @@
 ghost use Rattle.std.specs.Prelude.{◌≡◌, ℕ};
 ghost use Rattle.invoke_by_index.specs.Methods.{prototype};
 ghost use Rattle.object_memory.specs.Memory.{MachineView};
-ghost use Rattle.stub_dispatch.specs.Calls.{AreCanonical, Call};
+ghost use Rattle.stub_dispatch.specs.Calls.{AreCanonical, Call, call_of};
 
 use descriptor_reader::MethodView;
 use object_memory::Machine;
@@ -12,8 +12,7 @@ use object_memory::Machine;
 pub trait Callee {
     /// What a call may do: the callee and the machine before; the call; the callee and the machine
     /// after it, and the answer.
-    ghost reacts: {
-        (before : Self) (machine : MachineView) → Call
+    ghost reacts: { (before : Self) (machine : MachineView) → Call
         → (after : Self) (machine_after : MachineView) (answer : ℕ) → Type 0 };
 
     /// Does what the object of this number does when its method is called with these values.
@@ -30,11 +29,11 @@ pub trait Callee {
     ) -> u32
         requires slot { slot ≡ method.now.slot }
         requires cells { AreCanonical machine.old.conv (prototype method.now) cells.now }
-        ensures { let call : Call = record {
-                object = object;
-                slot = slot;
-                proto = prototype method.now;
-                cells = cells.now;
-            } in
-            reacts self.old machine.old call self.new machine.new result };
+        ensures { reacts
+            self.old
+            machine.old
+            (call_of method.now object cells.now)
+            self.new
+            machine.new
+            result };
 }

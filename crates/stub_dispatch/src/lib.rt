@@ -4,6 +4,8 @@
 
 mod callees;
 mod recovery;
+mod stub;
 
 pub use callees::Callee;
 pub use recovery::{FrameShort, recover};
+pub use stub::dispatch;
