@@ -19,14 +19,14 @@ unfolding HasDepth
 one-more known at forward count is rest = (forward, is, rest)
 
 -- an object has one depth
-pub one-depth : (known : Forwarding) (at m n : ℕ) → HasDepth known at m → HasDepth known at n → m ≡ n
+pub one_depth : (known : Forwarding) (at m n : ℕ) → HasDepth known at m → HasDepth known at n → m ≡ n
 unfolding HasDepth
-one-depth known at zero zero p q = refl
-one-depth known at zero (suc n) p q = absurd (none-some q.0 (sym p ∙ q.1))
-one-depth known at (suc m) zero p q = absurd (none-some p.0 (sym q ∙ p.1))
-one-depth known at (suc m) (suc n) p q =
+one_depth known at zero zero p q = refl
+one_depth known at zero (suc n) p q = absurd (none-some q.0 (sym p ∙ q.1))
+one_depth known at (suc m) zero p q = absurd (none-some p.0 (sym q ∙ p.1))
+one_depth known at (suc m) (suc n) p q =
     let same : p.0 ≡ q.0 = same_Some p.0 q.0 (sym p.1 ∙ q.1) in
-    ap suc (one-depth known q.0.target m n (subst (λ (w : Forward). HasDepth known w.target m) same p.2) q.2)
+    ap suc (one_depth known q.0.target m n (subst (λ (w : Forward). HasDepth known w.target m) same p.2) q.2)
 
 -- where two agree below an object, and the ways of the first go down, the ways from below it are
 -- the same

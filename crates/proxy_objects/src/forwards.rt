@@ -30,7 +30,7 @@ impl Model for Forwards {
 }
 
 impl Forwards {
-    ghost use Rattle.std.specs.Prelude.{◌≡◌, ◌<◌, ◌≤◌, ◌↔◌, ℕ, [], Err, IfSome, IsSome, OnErr, OnOk};
+    ghost use Rattle.std.specs.Prelude.{◌≡◌, ◌<◌, ◌≤◌, ◌↔◌, ℕ, [], nat_eq, Err, IfSome, IsSome, IsTrue, Some, OnErr, OnOk, if◌then◌else◌};
     ghost use Rattle.std.specs.Option.{option_copied};
     ghost use Rattle.proxy_objects.specs.Forwarding.{HasDepth, forward_of, with_forward};
 
@@ -55,10 +55,15 @@ impl Forwards {
         ensures added { OnOk
             result
             (self.new ≡ with_forward self.old object (record { target = target; conv = conv })) }
+        ensures known { OnOk
+            result
+            ((other : ℕ) → forward_of self.new other
+            ≡ (if nat_eq object other then Some (record { target = target; conv = conv })
+            else forward_of self.old other)) }
         ensures depth { (result ≡ Err TooDeep) ↔ HasDepth self.old target MOST_FORWARDERS }
         ensures err { OnErr result (self.new ≡ self.old) }
     {
-        if self.depth(target) == MOST_FORWARDERS {
+        if self.is_full(target) {
             return Err(ForwardError::Depth);
         }
         self.by_object.insert(object, Forward { target, conv })?;
@@ -86,5 +91,13 @@ impl Forwards {
             at = forward.target;
         }
         count
+    }
+
+    /// Whether as many forwarders as there may be stand on the way from an object.
+    #[tactic(auto, using(crate::proofs::Ways::one_depth))]
+    fn is_full(&self, object: u32) -> bool
+        ensures { IsTrue result ↔ HasDepth self.now object MOST_FORWARDERS }
+    {
+        self.depth(object) == MOST_FORWARDERS
     }
 }

@@ -1,14 +1,11 @@
 -- Conventions with the same word have the same canonical patterns.
-use Rattle.std.proofs.Common.{◌≡◌, ℕ, ◌+◌, ◌*◌, ◌%◌, ◌^◌, List, [], ◌∷◌, refl, sym, ap, ◌∙◌}
+use Rattle.std.proofs.Common.{◌≡◌, ℕ, ◌*◌, ◌%◌, ◌^◌, List, [], ◌∷◌, refl, ap, ◌∙◌}
 use Rattle.call_model.specs.declared.ctypes.CType.{CType}
 use Rattle.call_model.specs.declared.ctypes.CType.TheVariants.{Ptr}
 use Rattle.call_model.specs.declared.places.Conv.{Conv}
-use Rattle.call_model.specs.declared.prototypes.ProtoArg.{ProtoArg}
-use Rattle.call_model.specs.Placement.{type_at, word_of}
-use Rattle.call_model.specs.Prototype.{types_of}
+use Rattle.call_model.specs.Placement.{word_of}
 use Rattle.call_model.specs.Values.{canon, canon_all}
 use Rattle.call_model.proofs.Patterns.{canon-canon}
-use Rattle.stub_dispatch.specs.Calls.{AreCanonical}
 
 pub canon-word : (c d : Conv) (t : CType) (v : ℕ) → word_of c ≡ word_of d → canon c t v ≡ canon d t v
 canon-word c d Ptr v same = ap (λ n. v % 2 ^ (8 * n)) same

@@ -7,7 +7,7 @@ use Rattle.proxy_objects.specs.declared.errors.ForwardError.{ForwardError}
 use Rattle.proxy_objects.specs.declared.errors.ForwardError.TheVariants.{Depth, Memory}
 use Rattle.proxy_objects.specs.declared.forwards.TheConstants.{MOST_FORWARDERS}
 use Rattle.proxy_objects.specs.Forwarding.{Forwarding, HasDepth, forward_of}
-use Rattle.proxy_objects.proofs.Ways.{not-added, one-depth, short-after}
+use Rattle.proxy_objects.proofs.Ways.{not-added, short-after}
 use Rattle.proxy_objects.proofs.forwards.Forwards.add.Goals as goal
 
 -- whether an answer is that there are too many forwarders
@@ -21,7 +21,7 @@ invariant_of-self-2 c =
     let known : Forwarding = c.self.inside.by_object.entries in
     let rising : (added : ℕ) → IsSome (forward_of known added) → added < c.args.object = subst (λ (k : Forwarding). (added : ℕ) → IsSome (forward_of k added) → added < c.args.object) (sym c.self.view_is) c.requires.rising in
     let free : HasDepth known c.args.target MOST_FORWARDERS → ⊥
-    = λ has. c.if-depth-eq-MOST_FORWARDERS.false (one-depth c.args.self.now c.args.target c.depth.result MOST_FORWARDERS c.depth.ensures.count (subst (λ (k : Forwarding). HasDepth k c.args.target MOST_FORWARDERS) c.self.view_is has)) in
+    = λ has. true≢false (sym (c.is_full.ensures.1 (subst (λ (k : Forwarding). HasDepth k c.args.target MOST_FORWARDERS) c.self.view_is has)) ∙ c.if-is_full.false) in
     short-after known c.insert.new.self.entries c.args.object (record { target = c.args.target; conv = c.args.conv }) c.self.invariant c.requires.below
     rising c.in_ok-insert.ensures.updates.0 free
 
@@ -29,7 +29,7 @@ pub returns-in_err-insert-clause-depth : goal.returns-in_err-insert-clause-depth
 returns-in_err-insert-clause-depth c =
     let p = err_from_is_err_and c.from_residual.result c.from_residual.ensures.1 in (
       λ deep. absurd (true≢false (sym (ap is_deep deep) ∙ ap is_deep (p.1 ∙ ap Err p.2))),
-      λ has. absurd (c.if-depth-eq-MOST_FORWARDERS.false (one-depth c.args.self.now c.args.target c.depth.result MOST_FORWARDERS c.depth.ensures.count has)),
+      λ has. absurd (true≢false (sym (c.is_full.ensures.1 has) ∙ c.if-is_full.false)),
     )
 
 pub returns-clause-added : goal.returns-clause-added
@@ -42,5 +42,5 @@ returns-clause-added c =
 pub returns-clause-depth : goal.returns-clause-depth
 returns-clause-depth c = (
   λ deep. absurd (true≢false (sym (ap is_deep deep))),
-  λ has. absurd (c.if-depth-eq-MOST_FORWARDERS.false (one-depth c.args.self.now c.args.target c.depth.result MOST_FORWARDERS c.depth.ensures.count has)),
+  λ has. absurd (true≢false (sym (c.is_full.ensures.1 has) ∙ c.if-is_full.false)),
 )
