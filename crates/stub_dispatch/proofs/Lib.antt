@@ -1,1 +1,4 @@
+pub mod Objects
 pub mod Recovered
+pub mod SameWord
+pub mod Thises

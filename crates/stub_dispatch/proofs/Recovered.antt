@@ -1,17 +1,15 @@
 -- What stands at the place of each argument, read back.
-use Rattle.std.proofs.Common.{◌≡◌, ℕ, zero, suc, ◌+◌, ◌*◌, ◌%◌, ◌^◌, ◌<◌, ◌≤◌, List, [], ◌∷◌, ◌++◌, length, map, take, drop, get_or, sym, subst, ap, ◌∙◌, refl, arith, ◌⊎◌, inl, inr}
-use Rattle.std.specs.List.{range_with_len, slice_index}
+use Rattle.std.proofs.Common.{◌≡◌, ℕ, zero, suc, ◌+◌, ◌*◌, ◌^◌, ◌<◌, ◌≤◌, List, ◌∷◌, ◌++◌, length, take, get_or, sym, subst, ap, ◌∙◌, refl, arith, ◌⊎◌, inl, inr}
 use Rattle.std.proofs.lemmas.List.{ext_get_or, get_or-set_other, get_or-set_same}
 use Rattle.std.proofs.lemmas.List.FromFn.{get_or-map-range_with_len, length-map-range_with_len}
 use Rattle.std.proofs.Math.Nat.{mod-eq_of_lt}
-use Rattle.std.proofs.Math.Seq.{split_at}
 use Rattle.call_model.specs.declared.ctypes.CType.{CType}
-use Rattle.call_model.specs.declared.ctypes.CType.TheVariants.{I8, Ptr}
+use Rattle.call_model.specs.declared.ctypes.CType.TheVariants.{Ptr}
 use Rattle.call_model.specs.declared.places.Conv.{Conv}
 use Rattle.call_model.specs.declared.places.Loc.{Loc}
 use Rattle.call_model.specs.declared.prototypes.ProtoArg.{ProtoArg}
-use Rattle.call_model.specs.Placement.{place, place_at, type_at, space_of, stack_len_of, PlacesWithin, IsWithin}
-use Rattle.call_model.specs.Prototype.{passed_type, types_of}
+use Rattle.call_model.specs.Placement.{place, type_at, space_of, stack_len_of, PlacesWithin, IsWithin}
+use Rattle.call_model.specs.Prototype.{types_of}
 use Rattle.call_model.specs.Values.{FrameView, Conforms, canon, canon_all, extended, own_at, own_len, received}
 use Rattle.call_model.specs.declared.places.Loc.TheVariants.{Gpr, Fpr, Stack}
 use Rattle.call_model.proofs.Conforming.{canon_all-at, length-canon_all, receives-canonical}
@@ -32,43 +30,51 @@ has-place conv frame len (Fpr r) space n within few small enough = omega (arith,
 has-place conv frame len (Stack at) space n within few small enough = (omega (arith, few, small), omega (arith, within, few, enough))
 
 -- no argument takes more than 8 bytes
-space-le : (conv : Conv) (t : CType) → space_of conv t ≤ 8
+pub space-le : (conv : Conv) (t : CType) → space_of conv t ≤ 8
 space-le SysV64 t = omega arith
 space-le I386 t = grind (arith, common_steps)
 space-le Aapcs64 t = omega arith
 space-le Ms64 t = omega arith
 space-le Aapcs32 t = grind (arith, common_steps)
 
+-- a cell has what is received for argument k, and that is its own canonical pattern
+pub record IsReceived (conv : Conv) (proto : List ProtoArg) (frame : FrameView) (k v : ℕ) : Type 0 where
+  pub is : v ≡ received conv (types_of proto) frame (k + 1)
+  pub stays : canon conv (type_at (types_of proto) (k + 1)) v ≡ v
+
 -- an argument among those of a prototype, with what the steps of a walk answer for it
 module _ (conv : Conv) (proto front : List ProtoArg) (arg : ProtoArg) (back : List ProtoArg) (whole : front ++ arg ∷ back ≡ proto) (frame : FrameView)
-    (c : Conv) (c-is : c ≡ conv) (t : CType) (t-is : t ≡ passed arg) (at : Loc) (at-is : at ≡ place conv (types_of front) t) (n : ℕ) (n-is : n ≡ own_len c t) where
+    (c : Conv) (c-is : c ≡ conv) (t : CType) (t-is : t ≡ passed arg) (at : Loc) (at-is : at ≡ place conv (types_of front) t) where
   -- its own bytes are at a place that the frame has
-  pub has-own : PlacesWithin conv → stack_len_of conv (types_of proto) ≤ length frame.stack → IsPlace frame at n
+  pub has-own : PlacesWithin conv → stack_len_of conv (types_of proto) ≤ length frame.stack → IsPlace frame at (own_len c t)
   has-own within enough =
       let here : IsWithin conv (stack_len_of conv (types_of proto)) at (space_of conv t)
       = rw (at-is, t-is) (place-within proto front arg back whole conv within) in
-      let few : n ≤ space_of conv t = rw (n-is, c-is) (own-fits conv t) in
-      has-place conv frame (stack_len_of conv (types_of proto)) at (space_of conv t) n here few (space-le conv t) enough
+      let few : own_len c t ≤ space_of conv t = rw c-is (own-fits conv t) in
+      has-place conv frame (stack_len_of conv (types_of proto)) at (space_of conv t) (own_len c t) here few (space-le conv t) enough
 
   -- and the canonical pattern of these is what is received
-  pub is-received : (i own v : ℕ) → i ≡ length front → own ≡ own_at frame n at → own < 2 ^ (8 * n) → v ≡ canon c t own
-      → v ≡ received conv (types_of proto) frame (i + 1)
-  is-received i own v i-is own-is small v-is =
-      let n-of : n ≡ own_len conv t = n-is ∙ ap (λ k. own_len k t) c-is in
-      let below : own < 2 ^ (8 * own_len conv t) = subst (λ k. own < 2 ^ (8 * k)) n-of small in
+  pub is-received : (i v : ℕ) → i ≡ length front → v ≡ canon c t (own_at frame (own_len c t) at)
+      → own_at frame (own_len c t) at < 2 ^ (8 * own_len c t) → canon c t v ≡ v → IsReceived conv proto frame i v
+  is-received i v i-is v-is small stays =
+      let own = own_at frame (own_len c t) at in
+      let below : own < 2 ^ (8 * own_len conv t) = subst (λ k. own < 2 ^ (8 * own_len k t)) c-is small in
       let there : t ≡ type_at (types_of proto) (i + 1) = t-is ∙ type-there proto front arg back whole i i-is in
       let before : types_of front ≡ take (i + 1) (types_of proto) = sym (types-before proto front arg back whole i i-is) in
-      v-is ∙ ap (λ k. canon k t own) c-is
-      ∙ ap (extended conv t) (mod-eq_of_lt below ∙ own-is ∙ (λ j. own_at frame (n-of j) ((at-is ∙ ap (λ ts. place conv ts t) before) j)))
-      ∙ ap (λ (u : CType). extended conv u (own_at frame (own_len conv u) (place conv (take (i + 1) (types_of proto)) u))) there
+      record {
+        is = v-is ∙ ap (λ k. canon k t own) c-is
+            ∙ ap (extended conv t) (mod-eq_of_lt below ∙ (λ j. own_at frame (own_len (c-is j) t) ((at-is ∙ ap (λ ts. place conv ts t) before) j)))
+            ∙ ap (λ (u : CType). extended conv u (own_at frame (own_len conv u) (place conv (take (i + 1) (types_of proto)) u))) there;
+        stays = subst (λ (u : CType). canon conv u v ≡ v) there (subst (λ k. canon k t v ≡ v) c-is stays);
+      }
 
--- one cell more
-pub each-more : (f : ℕ → ℕ) (cells : List ℕ) (i v : ℕ) → i < length cells → v ≡ f i → ((k : ℕ) → k < i → get_or cells k 0 ≡ f k)
-    → (k : ℕ) → k < i + 1 → get_or (slice_set cells i v) k 0 ≡ f k
-each-more f cells i v inside is each k lt =
-    elim (below_or_last k i lt) as (λ _. get_or (slice_set cells i v) k 0 ≡ f k) [
-      | inl less ↦ get_or-set_other cells i k v 0 (λ same. omega (arith, same, less)) ∙ each k less
-      | inr last ↦ ap (λ j. get_or (slice_set cells i v) j 0) last ∙ get_or-set_same cells i v 0 inside ∙ is ∙ ap f (sym last)
+-- one element more
+pub each-more : {X : Type 0} (d : X) (P : ℕ → X → Type 0) (xs : List X) (i : ℕ) (v : X) → i < length xs → P i v → ((k : ℕ) → k < i → P k (get_or xs k d))
+    → (k : ℕ) → k < i + 1 → P k (get_or (slice_set xs i v) k d)
+each-more d P xs i v inside holds each k lt =
+    elim (below_or_last k i lt) as (λ _. P k (get_or (slice_set xs i v) k d)) [
+      | inl less ↦ subst (P k) (sym (get_or-set_other xs i k v d (λ same. omega (arith, same, less)))) (each k less)
+      | inr last ↦ subst (λ j. P j (get_or (slice_set xs i v) j d)) (sym last) (subst (P i) (sym (get_or-set_same xs i v d inside)) holds)
     ]
   where
     below_or_last : (k n : ℕ) → k < n + 1 → (k < n) ⊎ (k ≡ n)

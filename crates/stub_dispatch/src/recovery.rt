@@ -1,12 +1,15 @@
 //! The values of a call, read back from its frame.
 
-ghost use Rattle.std.specs.Prelude.{◌≡◌, ◌+◌, ◌<◌, ◌≤◌, length, MatchResult, OnErr, OnOk};
+ghost use Rattle.std.specs.Prelude.{◌≡◌, ◌*◌, ◌<◌, ◌≤◌, ◌^◌, length, MatchResult, OnErr, OnOk};
 ghost use Rattle.call_model.specs.Placement as places;
 ghost use Rattle.call_model.specs.Prototype.{types_of};
+ghost use Rattle.call_model.specs.Values as values;
 ghost use Rattle.invoke_by_index.specs.Methods.{prototype};
+ghost use Rattle.object_memory.specs.Frames.{IsPlace};
+ghost use Rattle.stub_dispatch.specs.Calls.{AreCanonical};
 ghost use Rattle.stub_dispatch.specs.Cells.{GivesCanonical, IsShort, received_cells};
 
-use call_model::{CType, Convention, canonical, own_len};
+use call_model::{CType, Conv, Convention, Loc, canonical, own_len};
 use descriptor_reader::MethodView;
 use invoke_by_index::stack_len;
 use object_memory::Frame;
@@ -43,6 +46,7 @@ pub fn recover<C: Convention>(
     ensures canonical { OnOk
         result
         (GivesCanonical C.CONV (prototype method.now) frame.now cells.new) }
+    ensures patterns { OnOk result (AreCanonical C.CONV (prototype method.now) cells.new) }
     ensures err { OnErr result (cells.new ≡ cells.old) }
 {
     let needs = stack_len::<C>(method);
@@ -59,7 +63,8 @@ fn recover_each<C: Convention>(frame: &Frame, method: &MethodView<'_>, cells: &m
     requires paired { length cells.old ≡ length (prototype method.now) }
     requires enough { places.stack_len_of C.CONV (types_of (prototype method.now))
         ≤ length frame.now.stack }
-    ensures { cells.new ≡ received_cells C.CONV (prototype method.now) frame.now }
+    ensures received { cells.new ≡ received_cells C.CONV (prototype method.now) frame.now }
+    ensures patterns { AreCanonical C.CONV (prototype method.now) cells.new }
 {
     let conv = C::CONV;
     let mut walk = C::begin();
@@ -68,7 +73,19 @@ fn recover_each<C: Convention>(frame: &Frame, method: &MethodView<'_>, cells: &m
     for arg in method.args() {
         let ty = arg.passed_type();
         let at = walk.next(ty);
-        cells[i] = canonical(conv, ty, frame.own(at, own_len(conv, ty)));
+        cells[i] = value_at(frame, conv, ty, at);
         i += 1;
     }
+}
+
+/// The value at the place of an argument: the canonical pattern of its own bytes there.
+fn value_at(frame: &Frame, conv: Conv, ty: CType, at: Loc) -> u64
+    requires { IsPlace frame.now at (values.own_len conv ty) }
+    ensures value { result
+        ≡ values.canon conv ty (values.own_at frame.now (values.own_len conv ty) at) }
+    ensures own { values.own_at frame.now (values.own_len conv ty) at
+        < 2 ^ (8 * values.own_len conv ty) }
+    ensures stays { values.canon conv ty result ≡ result }
+{
+    canonical(conv, ty, frame.own(at, own_len(conv, ty)))
 }
