@@ -1,6 +1,6 @@
 -- The words one by one: what is read is spelled so, and what is spelled so is read.
-use Rattle.std.proofs.Common.{◌≡◌, ℕ, zero, suc, ◌-◌, ◌<◌, Bool, true, false, cond, eqb, ◌∷◌, ◌++◌, length, take, drop, ℤ, pos, neg_ℤ, Option, Some, None, Result, Ok, Err, refl, sym, ap, subst, ◌∙◌, inl, inr, arith, length-append}
-use Rattle.std.specs.Prelude.{codes}
+use Rattle.std.proofs.Common.{◌≡◌, ℕ, zero, suc, ◌-◌, ◌<◌, Bool, true, false, cond, eqb, List, [], ◌∷◌, ◌++◌, length, take, drop, ℤ, pos, neg_ℤ, Option, Some, None, Result, Ok, Err, refl, sym, ap, subst, ◌∙◌, inl, inr, arith, length-append}
+use Rattle.std.specs.Prelude.{codes, find}
 use Rattle.std.specs.Option.{option_map, option_map_or}
 use Rattle.std.specs.Result.{result_ok}
 use Rattle.std.specs.Str.{bytes_eq}
@@ -10,10 +10,12 @@ use Rattle.std.proofs.lemmas.List.{take-append-drop}
 use Rattle.std.proofs.lemmas.Bool.{false≢true, ne_eqb}
 use Rattle.std.proofs.lemmas.Option.{cond_some, none-some, same_Some}
 use Rattle.std.proofs.lemmas.Slice.Eq.{bytes_eq-Decides}
+use Rattle.call_model.specs.declared.places.Conv.{Conv}
+use Rattle.call_model.specs.declared.places.Conv.TheVariants.{SysV64, I386, Aapcs64, Ms64, Aapcs32}
 use Rattle.hex.specs.Hex.{decode_of}
 use Rattle.xp_base.specs.Digits.{IsNatural, IsDecimal, decimal_value}
-use Rattle.call_scripts.specs.Reading.{after, before, bytes_of, decimal_of, digits_of, iid_of, name_of, number_of}
-use Rattle.call_scripts.specs.Spellings.{Word, is_name, IsNumber, IsDigits, IsBytes, IsIid}
+use Rattle.call_scripts.specs.Reading.{after, before, bytes_of, conv_of, decimal_of, digits_of, iid_of, name_of, number_of}
+use Rattle.call_scripts.specs.Spellings.{Word, conv_word, is_name, IsNumber, IsDigits, IsBytes, IsIid}
 use Rattle.call_scripts.proofs.Numerals.{digits_yes, digits_read}
 
 -- ---- prefixes and suffixes
@@ -91,6 +93,29 @@ iid_read w bytes is = is
 pub iid_spelled : (w bytes : Word) → IsIid w bytes → iid_of w ≡ Some bytes
 unfolding iid_of
 iid_spelled w bytes is = is
+
+-- ---- conventions
+
+-- what is found passes the test
+found_passes : {A : Type 0} (test : A → Bool) (xs : List A) (x : A) → find test xs ≡ Some x → test x ≡ true
+found_passes test [] x h = absurd (none-some x h)
+found_passes test (y ∷ xs) x h = by_test (test y) refl (found_passes test xs x) h
+  where
+    by_test : (b : Bool) → test y ≡ b → (find test xs ≡ Some x → test x ≡ true) → cond b (Some y) (find test xs) ≡ Some x → test x ≡ true
+    by_test true e later h = subst (λ z. test z ≡ true) (same_Some y x h) e
+    by_test false e later h = later h
+
+pub conv_read : (w : Word) (conv : Conv) → conv_of w ≡ Some conv → w ≡ conv_word conv
+unfolding conv_of
+conv_read w conv is = (bytes_eq-Decides w (conv_word conv)).0 (found_passes (λ c. bytes_eq w (conv_word c)) (SysV64 ∷ I386 ∷ Aapcs64 ∷ Ms64 ∷ Aapcs32 ∷ []) conv is)
+
+pub conv_spelled : (conv : Conv) → conv_of (conv_word conv) ≡ Some conv
+unfolding conv_of
+conv_spelled SysV64 = refl
+conv_spelled I386 = refl
+conv_spelled Aapcs64 = refl
+conv_spelled Ms64 = refl
+conv_spelled Aapcs32 = refl
 
 -- ---- numbers
 

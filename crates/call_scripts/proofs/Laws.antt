@@ -6,15 +6,15 @@ use Rattle.std.specs.Str.{bytes_eq}
 use Rattle.std.proofs.lemmas.Bool.{false≢true, eqb-true, eq-eqb}
 use Rattle.std.proofs.lemmas.Option.{none-some, same_Some}
 use Rattle.call_scripts.specs.declared.script.Act.{Act}
-use Rattle.call_scripts.specs.declared.script.Act.TheVariants.{Block, Object, Reply, Call, Enter, ShowBlock, ShowValue, Poke, Context}
+use Rattle.call_scripts.specs.declared.script.Act.TheVariants.{Block, Object, Reply, Call, Enter, ShowBlock, ShowValue, Poke, Context, Proxy, Bridge}
 use Rattle.call_scripts.specs.declared.script.Fill.{Fill}
 use Rattle.call_scripts.specs.declared.script.Fill.TheVariants.{Given, Zeros, Iid}
 use Rattle.call_scripts.specs.declared.script.Line.{Line}
 use Rattle.call_scripts.specs.Lines.{Each, IsAct, IsName, IsNothing, IsRead, AreRead, HasReading, IsFirstUnread, ReadsUpTo, IsItem, IsArg, IsFrameItem}
-use Rattle.call_scripts.specs.Reading.{◌>>=◌, Reading, act_of, add_line, after, arg_of, block_of, bytes_of, call_of, context_of, digits_of, each_of, enter_of, fill_kind_of, frame_item_of, front_of, iid_of, is_comment, item_of, line_of, member_of, name_of, object_of, poke_of, reply_of, show_of, target_of, value_of, words_line_of}
-use Rattle.call_scripts.specs.Spellings.{Word}
+use Rattle.call_scripts.specs.Reading.{◌>>=◌, Reading, act_of, add_line, after, arg_of, block_of, bridge_of, bytes_of, call_of, context_of, conv_of, digits_of, each_of, enter_of, fill_kind_of, frame_item_of, front_of, iid_of, is_comment, item_of, line_of, member_of, name_of, object_of, poke_of, proxy_of, reply_of, show_of, target_of, value_of, words_line_of}
+use Rattle.call_scripts.specs.Spellings.{Word, conv_word}
 use Rattle.call_scripts.specs.Texts.{is_plain, joined, words}
-use Rattle.call_scripts.proofs.Atoms.{after_read, after_spelled, bytes_read, bytes_spelled, digits_spelled, iid_read, iid_spelled, name_read, name_spelled}
+use Rattle.call_scripts.proofs.Atoms.{after_read, after_spelled, bytes_read, bytes_spelled, conv_read, conv_spelled, digits_spelled, iid_read, iid_spelled, name_read, name_spelled}
 use Rattle.call_scripts.proofs.Lacking.{name_lacks}
 use Rattle.call_scripts.proofs.Cuts.{lacks}
 use Rattle.call_scripts.proofs.Numerals.{digits_read}
@@ -148,6 +148,37 @@ context_read (w ∷ []) act h =
     subst (λ a. IsAct (codes "context" ∷ w ∷ []) a) (same_Some _ act v.2) (w, refl, value_read w v.0 v.1)
 context_read (w ∷ v ∷ ws) act h = absurd (none-some act h)
 
+proxy_read : (ws : List Word) (act : Act) → proxy_of ws ≡ Some act → IsAct (codes "proxy" ∷ ws) act
+proxy_read [] act h = absurd (none-some act h)
+proxy_read (name ∷ []) act h = absurd (none-some act h)
+proxy_read (name ∷ target ∷ []) act h =
+    let n = bound (name_of name) _ act h in
+    let read = name_read name n.0 n.1 in
+    let t = bound (name_of target) _ act n.2 in
+    let read_too = name_read target t.0 t.1 in
+    subst (λ a. IsAct (codes "proxy" ∷ name ∷ target ∷ []) a) (same_Some _ act t.2)
+    (ap (λ w. codes "proxy" ∷ w ∷ target ∷ []) read.0 ∙ ap (λ w. codes "proxy" ∷ n.0 ∷ w ∷ []) read_too.0, read.1, read_too.1)
+proxy_read (name ∷ target ∷ w ∷ ws) act h = absurd (none-some act h)
+
+bridge_read : (ws : List Word) (act : Act) → bridge_of ws ≡ Some act → IsAct (codes "bridge" ∷ ws) act
+bridge_read [] act h = absurd (none-some act h)
+bridge_read (name ∷ []) act h = absurd (none-some act h)
+bridge_read (name ∷ target ∷ []) act h = absurd (none-some act h)
+bridge_read (name ∷ target ∷ word ∷ []) act h =
+    let n = bound (name_of name) _ act h in
+    let read = name_read name n.0 n.1 in
+    let t = bound (name_of target) _ act n.2 in
+    let read_too = name_read target t.0 t.1 in
+    let c = bound (conv_of word) _ act t.2 in
+    subst (λ a. IsAct (codes "bridge" ∷ name ∷ target ∷ word ∷ []) a) (same_Some _ act c.2) (
+      ap (λ w. codes "bridge" ∷ name ∷ target ∷ w ∷ []) (conv_read word c.0 c.1)
+          ∙ ap (λ w. codes "bridge" ∷ w ∷ target ∷ conv_word c.0 ∷ []) read.0
+          ∙ ap (λ w. codes "bridge" ∷ n.0 ∷ w ∷ conv_word c.0 ∷ []) read_too.0,
+      read.1,
+      read_too.1,
+    )
+bridge_read (name ∷ target ∷ word ∷ w ∷ ws) act h = absurd (none-some act h)
+
 -- the first word names the command
 by_command : (command name : Word) (ws : List Word) (act : Act) (reading : Option Act) → ((w : Word) → w ≡ name → reading ≡ Some act → IsAct (w ∷ ws) act)
     → (other : Option Act) → (other ≡ Some act → IsAct (command ∷ ws) act)
@@ -172,7 +203,9 @@ act_read (c ∷ ws) act h =
     (by_command c (codes "enter") ws act (enter_of ws) (command_read _ ws act _ (enter_read ws act)) _
     (by_command c (codes "show") ws act (show_of ws) (command_read _ ws act _ (show_read ws act)) _
     (by_command c (codes "poke") ws act (poke_of ws) (command_read _ ws act _ (poke_read ws act)) _
-    (by_command c (codes "context") ws act (context_of ws) (command_read _ ws act _ (context_read ws act)) None (λ e. absurd (none-some act e))))))))) h
+    (by_command c (codes "context") ws act (context_of ws) (command_read _ ws act _ (context_read ws act)) _
+    (by_command c (codes "proxy") ws act (proxy_of ws) (command_read _ ws act _ (proxy_read ws act)) _
+    (by_command c (codes "bridge") ws act (bridge_of ws) (command_read _ ws act _ (bridge_read ws act)) None (λ e. absurd (none-some act e))))))))))) h
 
 show_name : (name : Word) → IsName name → show_of (name ∷ []) ≡ Some (ShowBlock name)
 show_name name is = by_prefix (after (codes "$") name) refl
@@ -200,6 +233,8 @@ act_spelled ws (ShowBlock name) h = rw h.0 (show_name name h.1)
 act_spelled ws (ShowValue name) h = rw h.0 (rw (after_spelled (codes "$") name, name_spelled name h.1) refl)
 act_spelled ws (Poke name offset bytes) h = rw h.2 (rw (name_spelled name h.3, digits_spelled 10 8 h.0 offset h.4, bytes_spelled h.1 bytes h.5) refl)
 act_spelled ws (Context value) h = rw h.1 (rw (value_spelled h.0 value h.2) refl)
+act_spelled ws (Proxy name target) h = rw h.0 (rw (name_spelled name h.1, name_spelled target h.2) refl)
+act_spelled ws (Bridge name target conv) h = rw h.0 (rw (name_spelled name h.1, name_spelled target h.2, conv_spelled conv) refl)
 
 -- ---- lines
 

@@ -4,7 +4,7 @@ use Rattle.std.specs.Str.Lines.{lines}
 use Rattle.call_scripts.specs.declared.error.ScriptError.{ScriptError}
 use Rattle.call_scripts.specs.declared.error.ScriptError.TheVariants as errors
 use Rattle.call_scripts.specs.declared.script.Act.{Act}
-use Rattle.call_scripts.specs.declared.script.Act.TheVariants.{Block, Object, Reply, Call, Enter, ShowBlock, ShowValue, Poke, Context}
+use Rattle.call_scripts.specs.declared.script.Act.TheVariants.{Block, Object, Reply, Call, Enter, ShowBlock, ShowValue, Poke, Context, Proxy, Bridge}
 use Rattle.call_scripts.specs.declared.script.ArgWord.{ArgWord}
 use Rattle.call_scripts.specs.declared.script.ArgWord.TheVariants as args
 use Rattle.call_scripts.specs.declared.script.EnterItem.{EnterItem}
@@ -23,7 +23,7 @@ use Rattle.call_scripts.specs.declared.script.Term.{Term}
 use Rattle.call_scripts.specs.declared.script.Term.TheVariants as terms
 use Rattle.call_scripts.specs.declared.script.ValueWord.{ValueWord}
 use Rattle.call_scripts.specs.declared.script.ValueWord.TheVariants as values
-use Rattle.call_scripts.specs.Spellings.{Word, is_name, is_register, IsNumber, IsDigits, IsBytes, IsIid}
+use Rattle.call_scripts.specs.Spellings.{Word, conv_word, is_name, is_register, IsNumber, IsDigits, IsBytes, IsIid}
 use Rattle.call_scripts.specs.Texts.{is_plain, joined, words}
 
 abbrev pub IsName : Word → Type 0
@@ -111,6 +111,9 @@ IsAct ws (ShowValue name) = (ws ≡ codes "show" ∷ (codes "$" ++ name) ∷ [])
 IsAct ws (Poke name offset bytes) =
     (o : Word) × (hex : Word) × (ws ≡ codes "poke" ∷ name ∷ o ∷ hex ∷ []) × IsName name × IsOffset o offset × IsBytes hex bytes
 IsAct ws (Context value) = (w : Word) × (ws ≡ codes "context" ∷ w ∷ []) × IsValue w value
+IsAct ws (Proxy name target) = (ws ≡ codes "proxy" ∷ name ∷ target ∷ []) × IsName name × IsName target
+IsAct ws (Bridge name target conv) =
+    (ws ≡ codes "bridge" ∷ name ∷ target ∷ conv_word conv ∷ []) × IsName name × IsName target
 
 -- words that are nothing: none, or a comment, whose first word begins with `#`
 abbrev pub IsNothing : List Word → Type 0

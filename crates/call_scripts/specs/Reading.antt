@@ -1,11 +1,13 @@
 -- What each word and each line reads as, if it has a reading.
-use Rattle.std.specs.Prelude.{◌≡◌, ℕ, ◌+◌, ◌-◌, position, Bool, ◌&&◌, if◌then◌else◌, ◌==◌, slice_index, nat_lt, nat_le, List, [], ◌∷◌, ◌++◌, length, take, drop, ℤ, pos, neg_ℤ, codes, Option, Some, None, Result, Ok, Err}
+use Rattle.std.specs.Prelude.{◌≡◌, ℕ, ◌+◌, ◌-◌, find, position, Bool, ◌&&◌, if◌then◌else◌, ◌==◌, slice_index, nat_lt, nat_le, List, [], ◌∷◌, ◌++◌, length, take, drop, ℤ, pos, neg_ℤ, codes, Option, Some, None, Result, Ok, Err}
 use Rattle.std.specs.List.{list_all}
 use Rattle.std.specs.Char.{is_digit}
 use Rattle.std.specs.Option.{option_map, option_map_or}
 use Rattle.std.specs.Result.{result_ok}
 use Rattle.std.specs.Str.{bytes_eq}
 use Rattle.std.specs.Str.Parse.{digits_value, starts_with_minus}
+use Rattle.call_model.specs.declared.places.Conv.{Conv}
+use Rattle.call_model.specs.declared.places.Conv.TheVariants.{SysV64, I386, Aapcs64, Ms64, Aapcs32}
 use Rattle.hex.specs.Hex.{decode_of}
 use Rattle.uuid.specs.Text.{parsed_hyphenated}
 use Rattle.call_scripts.specs.declared.error.Unread.{Unread}
@@ -20,7 +22,7 @@ use Rattle.call_scripts.specs.declared.script.ReplyItem.{ReplyItem}
 use Rattle.call_scripts.specs.declared.script.Target.{Target}
 use Rattle.call_scripts.specs.declared.script.Term.{Term}
 use Rattle.call_scripts.specs.declared.script.ValueWord.{ValueWord}
-use Rattle.call_scripts.specs.declared.script.Act.TheVariants.{Block, Object, Reply, Call, Enter, ShowBlock, ShowValue, Poke, Context}
+use Rattle.call_scripts.specs.declared.script.Act.TheVariants.{Block, Object, Reply, Call, Enter, ShowBlock, ShowValue, Poke, Context, Proxy, Bridge}
 use Rattle.call_scripts.specs.declared.script.ArgWord.TheVariants.{Value, Cell, ValueCell, Absent}
 use Rattle.call_scripts.specs.declared.script.EnterItem.TheVariants.{Register, Stack}
 use Rattle.call_scripts.specs.declared.script.Fill.TheVariants.{Given, Zeros, Iid}
@@ -30,7 +32,7 @@ use Rattle.call_scripts.specs.declared.script.Target.TheVariants as targets
 use Rattle.call_scripts.specs.declared.script.Term.TheVariants as terms
 use Rattle.call_scripts.specs.declared.script.Term.TheVariants.{Arg, InCell}
 use Rattle.call_scripts.specs.declared.script.ValueWord.TheVariants as values
-use Rattle.call_scripts.specs.Spellings.{Word, is_name, is_register}
+use Rattle.call_scripts.specs.Spellings.{Word, conv_word, is_name, is_register}
 use Rattle.call_scripts.specs.Texts.{is_plain, joined, words}
 
 -- What a reader returned is what the reading is, unless memory ran out.
@@ -75,6 +77,10 @@ bytes_of w = if length w == 0 then None else result_ok (decode_of w)
 
 unfoldable pub iid_of : Word → Option (List ℕ)
 iid_of w = parsed_hyphenated w
+
+-- the convention that the word names
+unfoldable pub conv_of : Word → Option Conv
+conv_of w = find (λ conv. bytes_eq w (conv_word conv)) (SysV64 ∷ I386 ∷ Aapcs64 ∷ Ms64 ∷ Aapcs32 ∷ [])
 
 -- MEMBER: an interface's name, a dot, and a method's name or an attribute's after `get:` or `set:`
 unfoldable pub method_of : Word → Word → Option MemberRef
@@ -186,6 +192,15 @@ abbrev pub context_of : List Word → Option Act
 context_of (w ∷ []) = value_of w >>= λ value. Some (Context value)
 context_of _ = None
 
+abbrev pub proxy_of : List Word → Option Act
+proxy_of (name ∷ target ∷ []) = name_of name >>= λ name. name_of target >>= λ target. Some (Proxy name target)
+proxy_of _ = None
+
+abbrev pub bridge_of : List Word → Option Act
+bridge_of (name ∷ target ∷ conv ∷ []) =
+    name_of name >>= λ name. name_of target >>= λ target. conv_of conv >>= λ conv. Some (Bridge name target conv)
+bridge_of _ = None
+
 -- the line of these words
 unfoldable pub act_of : List Word → Option Act
 act_of [] = None
@@ -198,6 +213,8 @@ act_of (command ∷ words) =
     else if bytes_eq command (codes "show") then show_of words
     else if bytes_eq command (codes "poke") then poke_of words
     else if bytes_eq command (codes "context") then context_of words
+    else if bytes_eq command (codes "proxy") then proxy_of words
+    else if bytes_eq command (codes "bridge") then bridge_of words
     else None
 
 -- a word that begins with `#`

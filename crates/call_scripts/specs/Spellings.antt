@@ -1,5 +1,7 @@
 -- The words that a script's lines are made of, one by one: names, numbers, bytes, IIDs and register names.
 use Rattle.std.specs.Prelude.{◌≡◌, ℕ, ◌<◌, Bool, not, ◌&&◌, ◌||◌, ◌==◌, nat_lt, nat_le, ◌⊎◌, List, ◌++◌, length, slice_index, ℤ, pos, codes, Some, Ok}
+use Rattle.call_model.specs.declared.places.Conv.{Conv}
+use Rattle.call_model.specs.declared.places.Conv.TheVariants.{SysV64, I386, Aapcs64, Ms64, Aapcs32}
 use Rattle.std.specs.List.{list_all}
 use Rattle.std.specs.Char.{is_ascii_digit}
 use Rattle.std.specs.Str.Parse.{digits_value}
@@ -42,3 +44,11 @@ IsBytes w bytes = (0 < length w) × (decode_of w ≡ Ok bytes)
 -- an IID as RFC 9562 writes a UUID: hexadecimal digits in groups of 8, 4, 4, 4 and 12, joined by `-`
 abbrev pub IsIid : Word → List ℕ → Type 0
 IsIid w bytes = parsed_hyphenated w ≡ Some bytes
+
+-- CONV: the word that names a convention
+abbrev pub conv_word : Conv → Word
+conv_word SysV64 = codes "sysv64"
+conv_word I386 = codes "i386"
+conv_word Aapcs64 = codes "aapcs64"
+conv_word Ms64 = codes "ms64"
+conv_word Aapcs32 = codes "aapcs32"

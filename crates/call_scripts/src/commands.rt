@@ -1,8 +1,9 @@
 //! The commands of a script: one for each first word of a line.
 
 ghost use Rattle.std.specs.Prelude.{◌≡◌, ◌++◌, map};
-ghost use Rattle.call_scripts.specs.Reading.{Gives, act_of, block_of, call_of, context_of, each_of, enter_of, arg_of, frame_item_of, item_of, object_of, poke_of, reply_of, show_of};
+ghost use Rattle.call_scripts.specs.Reading.{Gives, act_of, block_of, bridge_of, call_of, context_of, each_of, enter_of, arg_of, frame_item_of, item_of, object_of, poke_of, proxy_of, reply_of, show_of};
 
+use crate::conventions::convention;
 use crate::error::Unread;
 use crate::forms::{arg, fill_kind, frame_item, item, member, target, value};
 use crate::script::{Act, ArgWord, EnterItem, Fill, ReplyItem};
@@ -152,6 +153,33 @@ pub(crate) fn context(alloc: Global, words: &[&[u8]]) -> Result<Act, Unread>
     }
 }
 
+/// `proxy NAME NAME`, behind its first word.
+pub(crate) fn proxy(alloc: Global, words: &[&[u8]]) -> Result<Act, Unread>
+    ensures { Gives result (proxy_of (map (λ word. word.now) words.now)) }
+{
+    match words {
+        [object, target] => Ok(Act::Proxy {
+            name: name(alloc, object)?,
+            target: name(alloc, target)?,
+        }),
+        _ => Err(Unread::NoReading),
+    }
+}
+
+/// `bridge NAME NAME CONV`, behind its first word.
+pub(crate) fn bridge(alloc: Global, words: &[&[u8]]) -> Result<Act, Unread>
+    ensures { Gives result (bridge_of (map (λ word. word.now) words.now)) }
+{
+    match words {
+        [object, target, conv] => Ok(Act::Bridge {
+            name: name(alloc, object)?,
+            target: name(alloc, target)?,
+            conv: convention(conv).ok_or(Unread::NoReading)?,
+        }),
+        _ => Err(Unread::NoReading),
+    }
+}
+
 /// What the words of a line ask for.
 #[tactic(auto, unfolding(crate::specs::Reading::act_of))]
 pub(crate) fn act(alloc: Global, words: &[&[u8]]) -> Result<Act, Unread>
@@ -177,6 +205,10 @@ pub(crate) fn act(alloc: Global, words: &[&[u8]]) -> Result<Act, Unread>
         poke(alloc, words)
     } else if command == b"context".as_slice() {
         context(alloc, words)
+    } else if command == b"proxy".as_slice() {
+        proxy(alloc, words)
+    } else if command == b"bridge".as_slice() {
+        bridge(alloc, words)
     } else {
         Err(Unread::NoReading)
     }

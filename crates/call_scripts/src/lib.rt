@@ -2,6 +2,7 @@
 #![tactic(auto)]
 
 mod commands;
+mod conventions;
 mod error;
 mod forms;
 mod read;
@@ -9,6 +10,7 @@ mod script;
 mod spellings;
 mod texts;
 
+pub use conventions::convention;
 pub use error::ScriptError;
 pub use read::{one_reading, read_front, read_script};
 pub use script::{

@@ -1,3 +1,4 @@
+use call_model::Conv;
 use xp_base::{Bytes, List};
 
 /// A script: its lines in order, without those that are nothing.
@@ -69,6 +70,17 @@ pub enum Act {
     },
     /// `context VALUE`: the address that later calls pass as their context.
     Context(ValueWord),
+    /// `proxy NAME NAME`: a new object that hands each call on to the object in the second block.
+    Proxy {
+        name: Bytes,
+        target: Bytes,
+    },
+    /// `bridge NAME NAME CONV`: a new object that does so under a convention of its own.
+    Bridge {
+        name: Bytes,
+        target: Bytes,
+        conv: Conv,
+    },
 }
 
 /// What a new block holds.

@@ -1,14 +1,15 @@
 //! Each form of a line with the tree that it reads as and its echo, each near miss as a fault, and
 //! the number of each line.
 
-use call_scripts::{Script, ScriptError, read_front, read_script};
+use call_model::Conv;
+use call_scripts::{Script, ScriptError, convention, read_front, read_script};
 use std::alloc::{AllocError, Global};
 use std::process::Abort;
 use std::test::Fail;
 use xp_base::MAX_TEXT;
 
 /// A line, the tree of what it does, and its echo.
-const FORMS: [(&str, &str, &str); 14] = [
+const FORMS: [(&str, &str, &str); 16] = [
     (
         "data b 00fF",
         "Block { name: Bytes { bytes: [98] }, fill: Given(Bytes { bytes: [0, 255] }) }",
@@ -67,6 +68,16 @@ const FORMS: [(&str, &str, &str); 14] = [
         "context @c",
     ),
     ("context 0", "Context(Number(0))", "context 0"),
+    (
+        "proxy p o",
+        "Proxy { name: Bytes { bytes: [112] }, target: Bytes { bytes: [111] } }",
+        "proxy p o",
+    ),
+    (
+        "bridge  q o\taapcs64",
+        "Bridge { name: Bytes { bytes: [113] }, target: Bytes { bytes: [111] }, conv: Aapcs64 }",
+        "bridge q o aapcs64",
+    ),
 ];
 
 #[test]
@@ -94,7 +105,7 @@ fn fault_line(rt: &impl Abort, alloc: Global, text: &[u8]) -> u32 {
 }
 
 /// Lines that are close to one that is read.
-const NEAR_MISSES: [&str; 38] = [
+const NEAR_MISSES: [&str; 46] = [
     "data b 0",
     "data b zero",
     "data b iid",
@@ -131,6 +142,14 @@ const NEAR_MISSES: [&str; 38] = [
     "context 1 2",
     "poke b 0",
     "poke b 123456789 00",
+    "proxy p",
+    "proxy p o q",
+    "proxy $p o",
+    "proxy p $o",
+    "bridge q o",
+    "bridge q o sysv",
+    "bridge q o Ms64",
+    "bridge q o i386 x",
     "jump",
     "Show b",
 ];
@@ -143,6 +162,25 @@ fn near_misses_are_faults(rt: HostRuntime) {
             1,
             "at {text}"
         );
+    }
+}
+
+/// Words, and the conventions that they name.
+const CONVENTIONS: [(&str, Option<Conv>); 8] = [
+    ("sysv64", Some(Conv::SysV64)),
+    ("i386", Some(Conv::I386)),
+    ("aapcs64", Some(Conv::Aapcs64)),
+    ("ms64", Some(Conv::Ms64)),
+    ("aapcs32", Some(Conv::Aapcs32)),
+    ("aapcs", None),
+    ("I386", None),
+    ("", None),
+];
+
+#[test]
+fn conventions_have_names(rt: HostRuntime) {
+    for (word, conv) in CONVENTIONS {
+        assert_eq!(rt; convention(word.as_bytes()), conv, "at {word}");
     }
 }
 

@@ -1,0 +1,31 @@
+//! The names of the conventions.
+
+ghost use Rattle.std.specs.Prelude.{◌≡◌, ◌↔◌, Some};
+ghost use Rattle.call_model.specs.declared.places.Conv as conventions;
+ghost use Rattle.call_scripts.specs.Reading.{conv_of};
+ghost use Rattle.call_scripts.specs.Spellings.{conv_word};
+
+use call_model::Conv;
+
+/// The convention that a word names, in scripts and on the command line: `sysv64`, `i386`,
+/// `aapcs64`, `ms64` and `aapcs32` name one each, and other words none.
+#[tactic(auto, unfolding(crate::specs::Reading::conv_of))]
+pub fn convention(word: &[u8]) -> Option<Conv>
+    ensures named { (conv : conventions.Conv)
+        → (result ≡ Some conv) ↔ (word.now ≡ conv_word conv) }
+    ensures value { result ≡ conv_of word.now }
+{
+    if word == b"sysv64".as_slice() {
+        Some(Conv::SysV64)
+    } else if word == b"i386".as_slice() {
+        Some(Conv::I386)
+    } else if word == b"aapcs64".as_slice() {
+        Some(Conv::Aapcs64)
+    } else if word == b"ms64".as_slice() {
+        Some(Conv::Ms64)
+    } else if word == b"aapcs32".as_slice() {
+        Some(Conv::Aapcs32)
+    } else {
+        None
+    }
+}
