@@ -1,11 +1,11 @@
 -- Loops that look for one of several parts, which have no fault, by the value that stands there.
-use Rattle.std.proofs.Common.{◌≡◌, ℕ, ◌+◌, ◌<◌, ◌≤◌, List, Option, Some, None, Bool, true, false, ap, arith, subst, sym, ◌∙◌}
+use Rattle.std.proofs.Common.{◌≡◌, ℕ, ◌+◌, ◌<◌, ◌≤◌, Option, Some, None, Bool, true, false, ap, arith, subst, sym, ◌∙◌}
 use Rattle.std.specs.List.{list_any, position}
 use Rattle.std.specs.Prelude.{All, slice_get}
 use borrow.Author.Count.{below_more}
 use Rattle.typelib_faults.specs.declared.cursor.Cursor.{Cursor}
 use Rattle.typelib_faults.specs.declared.faults.BadTypelib.{BadTypelib}
-use Rattle.typelib_faults.specs.Walk.{reach, values, walk}
+use Rattle.typelib_faults.specs.Walk.{reach, values}
 use Rattle.typelib_faults.proofs.WalkFacts.{place_reached, value_reached}
 use Rattle.typelib_check.proofs.StepLaws.{IsAt, step_on}
 use Rattle.descriptor_reader.proofs.ViewLaws.{all_pass, any_passes, first_found, none_found, none_passes, one_fails}

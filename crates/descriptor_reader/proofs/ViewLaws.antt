@@ -1,8 +1,7 @@
 -- What is known of a file without a fault when a part of it is read again.
 use Rattle.std.proofs.Common.{◌≡◌, ◌≢◌, ℕ, zero, suc, ◌+◌, ◌-◌, ◌*◌, ◌<◌, ◌≤◌, List, [], ◌∷◌, length, Option, Some, None, true, false, arith, refl, sym, ap, ◌∙◌, subst, ltb, lt-ltb, le-ltb, inl, inr, sum_by, eqb, not, take, drop, Bool, get_or, ◌||◌, option_and_then}
-use Rattle.std.specs.Prelude.{All, map, is_some, option_map, ◌&&◌}
+use Rattle.std.specs.Prelude.{All, map, is_some, option_map}
 use Rattle.std.specs.List.{list_any, position, position_or_len}
-use Rattle.std.specs.Str.{bytes_eq}
 use Rattle.std.proofs.lemmas.Bool.Decides.{eqb_tells}
 use Rattle.std.proofs.lemmas.List.{length-map}
 use Rattle.std.proofs.lemmas.List.Folds.{list_any_at, list_any_none}
@@ -25,7 +24,7 @@ use Rattle.typelib_faults.specs.Bytes.{AreBytes}
 use Rattle.typelib_faults.specs.Faults.{body_fault, chain_fault, directory_cursor, entry_fault, entry_next, first_fault, header_fault, item_fault, method_fault, name_fault, namespace_fault}
 use Rattle.typelib_faults.specs.Laws.{IsFine}
 use Rattle.typelib_faults.specs.Places.{body_at, count_of, directory_of, entries_of, entry_at, entry_end, library_of, method_at, name_at}
-use Rattle.descriptor_reader.specs.Views.{entry_after, first_number, has_iid, in_slots, is_named, nth_iface, numbered}
+use Rattle.descriptor_reader.specs.Views.{entry_after, first_number, in_slots, nth_iface, numbered}
 use Rattle.typelib_faults.specs.Walk.{reach, values}
 use Rattle.typelib_faults.proofs.ChainLaws.{known_body, long_chain, short_chain, slots_end, slots_on}
 use Rattle.typelib_faults.proofs.EntryLaws.{directory_fault, reach_entry}

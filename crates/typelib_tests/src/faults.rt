@@ -1,7 +1,7 @@
-//! The first fault of bytes that are no typelib, worked out by hand from the order in which a typelib
-//! is read.
+//! The first fault of bytes that are no typelib, worked out by hand from the order in which a
+//! typelib is read.
 
-ghost use Rattle.std.specs.Prelude.{◌≤◌, length};
+ghost use Rattle.std.specs.Prelude.{◌≡◌, ◌≤◌, length};
 
 use descriptor_reader::Typelib;
 use std::alloc::Global;
@@ -70,6 +70,13 @@ const POOL_OF_251: [u8; 6] = [0x61, 0x00, 0x00, 0x00, 0x00, 0xfb];
 /// The end of a descriptor without constants and flags.
 const END: [u8; 3] = [0; 3];
 
+/// A copy of the file of one method.
+fn one_method() -> [u8; 88]
+    ensures { length result ≡ 88 }
+{
+    ONE_METHOD
+}
+
 /// The code and the place of the first fault; None where there is none.
 fn fault_of(bytes: &[u8]) -> Option<(u8, u64)>
     requires { length bytes.now ≤ MAX_TYPELIB }
@@ -80,26 +87,32 @@ fn fault_of(bytes: &[u8]) -> Option<(u8, u64)>
     }
 }
 
+/// How many bytes of the file of one method are there, the byte that is changed and what it then
+/// is, and the code and the place of the first fault.
+type Change = (usize, usize, u8, Option<(u8, u64)>);
+
+const CHANGES: [Change; 14] = [
+    (31, 0, 88, Some((1, 31))),
+    (88, 0, 88, None),
+    (88, 0, 89, Some((2, 0))),
+    (88, 17, 1, Some((3, 16))),
+    (88, 23, 89, Some((4, 20))),
+    (88, 32, 130, Some((5, 32))),
+    (88, 27, 62, Some((6, 24))),
+    (88, 31, 89, Some((7, 28))),
+    (88, 55, 0, Some((8, 52))),
+    (88, 72, 2, Some((9, 71))),
+    (88, 72, 1, Some((10, 36))),
+    (88, 82, 27, Some((11, 82))),
+    (88, 82, 19, Some((12, 83))),
+    (88, 80, 2, Some((15, 87))),
+];
+
 #[test]
 fn a_short_or_changed_file_has_its_fault(rt: HostRuntime) {
-    for (len, place, byte, fault) in [
-        (31, 0, 88, Some((1, 31))),
-        (88, 0, 88, None),
-        (88, 0, 89, Some((2, 0))),
-        (88, 17, 1, Some((3, 16))),
-        (88, 23, 89, Some((4, 20))),
-        (88, 32, 130, Some((5, 32))),
-        (88, 27, 62, Some((6, 24))),
-        (88, 31, 89, Some((7, 28))),
-        (88, 55, 0, Some((8, 52))),
-        (88, 72, 2, Some((9, 71))),
-        (88, 72, 1, Some((10, 36))),
-        (88, 82, 27, Some((11, 82))),
-        (88, 82, 19, Some((12, 83))),
-        (88, 80, 2, Some((15, 87))),
-    ] {
+    for (len, place, byte, fault) in CHANGES {
         assert!(rt; len <= 88 && place < 88);
-        let mut file = ONE_METHOD;
+        let mut file = one_method();
         file[place] = byte;
         assert_eq!(rt; fault_of(&file[..len]), fault, "byte {place} is {byte}");
     }
@@ -129,28 +142,30 @@ fn assembled(
     Ok(file)
 }
 
+/// A header, how many entries follow it, the head of the pool, how many methods follow that, and
+/// the code and the place of the first fault.
+type Large = (&'static [u8], u32, &'static [u8], u32, Option<(u8, u64)>);
+
+const LARGE: [Large; 4] = [
+    (&ENTRIES_OF_60, 16_384, &POOL_OF_60, 60, None),
+    (
+        &ENTRIES_OF_100,
+        16_384,
+        &POOL_OF_100,
+        100,
+        Some((13, 459_586)),
+    ),
+    (&SLOTS_250, 1, &POOL_OF_250, 250, None),
+    (&SLOTS_251, 1, &POOL_OF_251, 251, Some((14, 36))),
+];
+
 #[test]
 fn a_large_file_has_its_fault(rt: HostRuntime) -> Result<(), Fail> {
-    for (header, entries, pool, methods, fault) in [
-        (ENTRIES_OF_60, 16_384, POOL_OF_60, 60, None),
-        (
-            ENTRIES_OF_100,
-            16_384,
-            POOL_OF_100,
-            100,
-            Some((13, 459_586)),
-        ),
-        (SLOTS_250, 1, POOL_OF_250, 250, None),
-        (SLOTS_251, 1, POOL_OF_251, 251, Some((14, 36))),
-    ] {
-        let file = assembled(rt.alloc(), &header, entries, &pool, methods)?;
+    for (header, entries, pool, methods, fault) in LARGE {
+        let file = assembled(rt.alloc(), header, entries, pool, methods)?;
         let bytes = file.as_slice();
         assert!(rt; bytes.len() <= MAX_TYPELIB);
-        assert_eq!(rt;
-            fault_of(bytes),
-            fault,
-            "{entries} entries of {methods} methods"
-        );
+        assert_eq!(rt; fault_of(bytes), fault, "{methods} methods");
     }
     Ok(())
 }
@@ -165,18 +180,23 @@ fn is_thin(bytes: &[u8]) -> Option<bool>
     }
 }
 
+/// The byte of the file of one method that is changed, what it then is, and whether the file is
+/// thin.
+const THIN: [(usize, u8, Option<bool>); 6] = [
+    (0, 88, Some(true)),
+    (0, 89, None),
+    (75, 8, Some(false)),
+    (81, 0xc0, Some(false)),
+    (82, 3, Some(false)),
+    (87, 0x80, Some(false)),
+];
+
 #[test]
 fn a_thin_file_has_no_flags(rt: HostRuntime) {
-    for (place, byte, thin) in [
-        (0, 88, Some(true)),
-        (0, 89, None),
-        (75, 8, Some(false)),
-        (81, 0xc0, Some(false)),
-        (82, 3, Some(false)),
-        (87, 0x80, Some(false)),
-    ] {
-        let mut file = ONE_METHOD;
-        file[place % 88] = byte;
+    for (place, byte, thin) in THIN {
+        assert!(rt; place < 88);
+        let mut file = one_method();
+        file[place] = byte;
         assert_eq!(rt; is_thin(&file), thin, "byte {place} is {byte}");
     }
 }

@@ -5,7 +5,6 @@ use lib_model::{
     Body, Iface, IfaceFlags, Library, Method, MethodFlags, Param, ParamFlags, XType, table_of, tags,
 };
 use std::alloc::Global;
-use std::process::Abort;
 use std::test::Fail;
 use xp_base::{Bytes, List, Memory};
 
@@ -160,26 +159,26 @@ fn library_of(alloc: Global, interfaces: &[Rows]) -> Result<Library, Memory> {
     Ok(Library { ifaces })
 }
 
-/// A slot is that of its row.
-fn assert_slot(rt: &impl Abort, slot: &TableSlot, row: &Row) {
-    let name = row.name;
-    assert_eq!(rt; slot.name.as_slice(), name);
-    assert_eq!(rt; slot.kind, MemberKind::Plain, "of {name:?}");
-    assert_eq!(rt; slot.status, row.status, "of {name:?}");
-    assert_eq!(rt; slot.proto.as_slice(), row.proto, "of {name:?}");
+/// Whether a slot is that of its row.
+fn has_slot(slot: &TableSlot, row: &Row) -> bool {
+    slot.name.as_slice() == row.name
+        && slot.kind == MemberKind::Plain
+        && slot.status == row.status
+        && slot.proto.as_slice() == row.proto
 }
 
-/// An interface has its rows' name, identifier, parent and slots.
-fn assert_iface(rt: &impl Abort, iface: &TableIface, rows: &Rows) {
-    let name = rows.name;
-    assert_eq!(rt; iface.name.as_slice(), name);
-    assert_eq!(rt; iface.iid, rows.iid, "of {name:?}");
-    assert!(rt; iface.resolved, "{name:?}");
-    assert_eq!(rt; iface.parent, rows.parent, "of {name:?}");
-    assert_eq!(rt; iface.slots.len(), rows.methods.len(), "of {name:?}");
+/// Whether an interface has its rows' name, identifier, parent and slots.
+fn has_rows(iface: &TableIface, rows: &Rows) -> bool {
     for (slot, row) in iface.slots.as_slice().iter().zip(rows.methods) {
-        assert_slot(rt, slot, row);
+        if !has_slot(slot, row) {
+            return false;
+        }
     }
+    iface.resolved
+        && iface.name.as_slice() == rows.name
+        && iface.iid == rows.iid
+        && iface.parent == rows.parent
+        && iface.slots.len() == rows.methods.len()
 }
 
 #[test]
@@ -188,7 +187,8 @@ fn the_table_has_the_interfaces_and_their_own_slots(rt: HostRuntime) -> Result<(
     let table = table_of(rt.alloc(), &library)?;
     assert_eq!(rt; table.ifaces.len(), INTERFACES.len());
     for (iface, rows) in table.ifaces.as_slice().iter().zip(&INTERFACES) {
-        assert_iface(&rt, iface, rows);
+        let name = rows.name;
+        assert!(rt; has_rows(iface, rows), "of {name:?}");
     }
     Ok(())
 }

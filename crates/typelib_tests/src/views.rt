@@ -1,7 +1,7 @@
 //! What the views of a typelib hand out, worked out by hand.
 
 use call_model::{CType, MemberKind, Note, Pass, ProtoArg, Status};
-use descriptor_reader::Typelib;
+use descriptor_reader::{BadTypelib, ConstView, IfaceView, Typelib};
 use std::test::Fail;
 use xp_base::ConstKind;
 
@@ -25,118 +25,142 @@ const FAMILY: [u8; 205] = [
     0x00, 0x00, 0x12, 0x02, 0x80, 0x02, 0x60, 0x02, 0x00, 0x06, 0x00, 0x00, 0x00,
 ];
 
+/// The typelib of the family.
+fn family() -> Result<Typelib<'static>, BadTypelib> {
+    Typelib::check(&FAMILY)
+}
+
 /// The identifier that ends in this byte, behind zeros.
 fn iid(last: u8) -> [u8; 16] {
     [0, 0, 0, 0, 0, 0, 0, 0, 0, 0, 0, 0, 0, 0, 0, last]
 }
 
+/// A name, the last byte of an identifier, and the number of the interface that has both.
+const NUMBERS: [(&[u8], u8, Option<u16>); 4] = [
+    (b"nsIA", 1, Some(1)),
+    (b"nsIB", 2, Some(2)),
+    (b"nsIC", 3, None),
+    (b"nsI", 0, None),
+];
+
 #[test]
 fn interfaces_are_found(rt: HostRuntime) -> Result<(), Fail> {
-    let lib = Typelib::check(&FAMILY)?;
+    let lib = family()?;
     assert_eq!(rt; lib.iface_count(), 3);
-    for (name, last, number) in [
-        (b"nsIA".as_slice(), 1, Some(1)),
-        (b"nsIB", 2, Some(2)),
-        (b"nsIC", 3, None),
-        (b"nsI", 0, None),
-    ] {
-        assert_eq!(rt; lib.find(name), number, "{last}");
-        assert_eq!(rt; lib.find_iid(&iid(last)), number, "{last}");
+    for (name, last, number) in NUMBERS {
+        let found = (lib.find(name), lib.find_iid(&iid(last)));
+        assert_eq!(rt; found, (number, number), "{last}");
     }
     Ok(())
 }
+
+/// The number of an interface, a kind and a name, and the slot of that member.
+const MEMBERS: [(u16, MemberKind, &[u8], Option<u16>); 9] = [
+    (1, MemberKind::Get, b"f", Some(0)),
+    (1, MemberKind::Plain, b"f", Some(1)),
+    (1, MemberKind::Plain, b"g", None),
+    (2, MemberKind::Get, b"f", Some(0)),
+    (2, MemberKind::Plain, b"f", Some(1)),
+    (2, MemberKind::Plain, b"g", Some(2)),
+    (2, MemberKind::Set, b"f", None),
+    (3, MemberKind::Plain, b"f", None),
+    (4, MemberKind::Plain, b"f", None),
+];
 
 #[test]
 fn members_are_found_in_ancestors(rt: HostRuntime) -> Result<(), Fail> {
-    let lib = Typelib::check(&FAMILY)?;
-    for (number, kind, name, slot) in [
-        (1, MemberKind::Get, b"f".as_slice(), Some(0)),
-        (1, MemberKind::Plain, b"f", Some(1)),
-        (1, MemberKind::Plain, b"g", None),
-        (2, MemberKind::Get, b"f", Some(0)),
-        (2, MemberKind::Plain, b"f", Some(1)),
-        (2, MemberKind::Plain, b"g", Some(2)),
-        (2, MemberKind::Set, b"f", None),
-        (3, MemberKind::Plain, b"f", None),
-        (4, MemberKind::Plain, b"f", None),
-    ] {
-        let found = lib.find_method(number, kind, name);
-        let at = found.map(|method| method.slot());
-        assert_eq!(rt; at, slot, "{number} {kind:?}");
+    let lib = family()?;
+    for (number, kind, name, slot) in MEMBERS {
+        let found = match lib.find_method(number, kind, name) {
+            Some(method) => Some(method.slot()),
+            None => None,
+        };
+        assert_eq!(rt; found, slot, "{number} {kind:?}");
     }
     Ok(())
 }
 
+/// A slot of nsIB, and the name, the kind, the parameters and the positions of the method there.
+const SLOTS: [(u16, &[u8], MemberKind, u32, u32); 3] = [
+    (0, b"f", MemberKind::Get, 1, 1),
+    (1, b"f", MemberKind::Plain, 1, 1),
+    (2, b"g", MemberKind::Plain, 2, 4),
+];
+
 #[test]
 fn slots_hold_the_methods_of_ancestors(rt: HostRuntime) -> Result<(), Fail> {
-    let lib = Typelib::check(&FAMILY)?;
-    for (slot, name, kind, params, positions) in [
-        (0, b"f".as_slice(), MemberKind::Get, 1, 1),
-        (1, b"f", MemberKind::Plain, 1, 1),
-        (2, b"g", MemberKind::Plain, 2, 4),
-    ] {
-        match lib.method_at(2, slot) {
-            Some(method) => assert!(rt;
+    let lib = family()?;
+    for (slot, name, kind, params, positions) in SLOTS {
+        let is_there = match lib.method_at(2, slot) {
+            Some(method) => {
                 method.slot() == slot
                     && method.name() == name
                     && method.kind() == kind
                     && method.status() == Status::Callable
                     && method.param_count() == params
-                    && method.positions() == positions,
-                "slot {slot}"
-            ),
-            None => assert!(rt; false, "slot {slot}"),
-        }
+                    && method.positions() == positions
+            }
+            None => false,
+        };
+        assert!(rt; is_there, "slot {slot}");
     }
     assert!(rt; lib.method_at(2, 3).is_none() && lib.method_at(3, 0).is_none());
     Ok(())
 }
 
+/// Whether the own methods of an interface stand in the slots from `first` to `end`.
+fn has_own_slots(view: &IfaceView<'_>, first: u16, end: u16) -> bool {
+    let mut next = first;
+    for method in view.methods() {
+        if method.slot() != next || next == u16::MAX {
+            return false;
+        }
+        next += 1;
+    }
+    next == end && view.first_slot() == first && view.end_slot() == end
+}
+
+/// The number of an interface, its first own slot, and one past its last.
+const OWN_SLOTS: [(u16, u16, u16); 3] = [(1, 0, 2), (2, 2, 3), (3, 0, 0)];
+
 #[test]
 fn own_methods_are_listed_in_their_slots(rt: HostRuntime) -> Result<(), Fail> {
-    let lib = Typelib::check(&FAMILY)?;
-    for (number, first, end) in [(1, 0, 2), (2, 2, 3), (3, 0, 0)] {
-        let mut next = first;
-        match lib.iface(number) {
-            Some(view) => {
-                assert_eq!(rt;
-                    (view.first_slot(), view.end_slot()),
-                    (first, end),
-                    "{number}"
-                );
-                for method in view.methods() {
-                    assert_eq!(rt; method.slot(), next, "{number}");
-                    next = end.min(next.saturating_add(1));
-                }
-                assert_eq!(rt; next, end, "{number}");
-            }
-            None => assert!(rt; false, "{number}"),
-        }
+    let lib = family()?;
+    for (number, first, end) in OWN_SLOTS {
+        let are_there = match lib.iface(number) {
+            Some(view) => has_own_slots(&view, first, end),
+            None => false,
+        };
+        assert!(rt; are_there, "{number}");
     }
     Ok(())
 }
 
+/// The name, the kind and the value of each constant of nsIA.
+const CONSTANTS: [(&[u8], ConstKind, i64); 2] = [
+    (b"a", ConstKind::I16, -1),
+    (b"b", ConstKind::U32, 4_294_967_295),
+];
+
+/// Whether a constant is that of its row.
+fn is_constant(constant: &ConstView<'_>, row: (&[u8], ConstKind, i64)) -> bool {
+    let (name, kind, value) = row;
+    constant.name() == name && constant.kind() == kind && constant.value() == value
+}
+
 #[test]
 fn constants_are_read(rt: HostRuntime) -> Result<(), Fail> {
-    let lib = Typelib::check(&FAMILY)?;
-    let rows = [
-        (b"a".as_slice(), ConstKind::I16, -1),
-        (b"b", ConstKind::U32, 4_294_967_295),
-    ];
+    let lib = family()?;
     match lib.iface(1) {
         Some(view) => {
-            for (constant, (name, kind, value)) in view.constants().zip(rows) {
-                assert!(rt;
-                    constant.name() == name && constant.kind() == kind,
-                    "{value}"
-                );
-                assert_eq!(rt; constant.value(), value);
+            for (constant, row) in view.constants().zip(CONSTANTS) {
+                assert!(rt; is_constant(&constant, row));
             }
             assert_eq!(rt; view.constants().count(), 2);
-            assert_eq!(rt;
-                view.constant(1).map(|last| last.value()),
-                Some(4_294_967_295)
-            );
+            match view.constant(1) {
+                Some(last) => assert!(rt; is_constant(&last, CONSTANTS[1])),
+                None => assert!(rt; false),
+            }
             assert!(rt; view.constant(2).is_none());
         }
         None => assert!(rt; false),
@@ -144,40 +168,50 @@ fn constants_are_read(rt: HostRuntime) -> Result<(), Fail> {
     Ok(())
 }
 
-/// An argument of 32 bits that is passed so.
-fn long(pass: Pass) -> ProtoArg {
-    ProtoArg {
-        pass,
-        ty: CType::I32,
-        optional: false,
-        note: Note::Plain,
-    }
-}
+/// An argument of 32 bits that is passed by its value.
+const LONG_IN: ProtoArg = ProtoArg {
+    pass: Pass::ByValue,
+    ty: CType::I32,
+    optional: false,
+    note: Note::Plain,
+};
 
-/// An argument that is added.
-fn added(ty: CType, note: Note) -> ProtoArg {
-    ProtoArg {
-        pass: Pass::ByValue,
-        ty,
-        optional: false,
-        note,
-    }
-}
+/// One whose value comes back.
+const LONG_OUT: ProtoArg = ProtoArg {
+    pass: Pass::ByCell { inward: false },
+    ty: CType::I32,
+    optional: false,
+    note: Note::Plain,
+};
+
+/// The context, and the number of optional arguments.
+const CONTEXT: ProtoArg = ProtoArg {
+    pass: Pass::ByValue,
+    ty: CType::Ptr,
+    optional: false,
+    note: Note::Context,
+};
+
+const ARGC: ProtoArg = ProtoArg {
+    pass: Pass::ByValue,
+    ty: CType::U8,
+    optional: false,
+    note: Note::Argc,
+};
+
+/// The arguments of g, by their positions.
+const ARGS: [(u32, ProtoArg); 4] = [(0, LONG_IN), (1, CONTEXT), (2, ARGC), (3, LONG_OUT)];
 
 #[test]
 fn added_arguments_stand_before_the_value(rt: HostRuntime) -> Result<(), Fail> {
-    let lib = Typelib::check(&FAMILY)?;
-    let rows = [
-        (0, long(Pass::ByValue)),
-        (1, added(CType::Ptr, Note::Context)),
-        (2, added(CType::U8, Note::Argc)),
-        (3, long(Pass::ByCell { inward: false })),
-    ];
+    let lib = family()?;
     match lib.method_at(2, 2) {
         Some(method) => {
-            for (arg, (position, row)) in method.args().zip(rows) {
-                assert_eq!(rt; arg, row, "{position}");
-                assert_eq!(rt; method.arg(position), Some(row), "{position}");
+            for (arg, (position, row)) in method.args().zip(ARGS) {
+                assert!(rt;
+                    arg == row && method.arg(position) == Some(row),
+                    "{position}"
+                );
             }
             assert_eq!(rt; method.args().count(), 4);
             assert_eq!(rt; method.position_of(0), Some(0));

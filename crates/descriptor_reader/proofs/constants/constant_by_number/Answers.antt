@@ -1,4 +1,4 @@
-use Rattle.std.proofs.Common.{arith, refl, sym, ◌≡◌}
+use Rattle.std.proofs.Common.{arith, refl, sym}
 use Rattle.typelib_faults.specs.Places.{constant_at, constant_end}
 use Rattle.typelib_faults.proofs.WalkFacts.{values_past}
 use Rattle.typelib_check.proofs.StepLaws.{part_here, step_on}

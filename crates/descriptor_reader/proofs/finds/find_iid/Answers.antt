@@ -1,4 +1,4 @@
-use Rattle.std.proofs.Common.{arith, false, sym, true, ◌+◌, ◌∙◌, ◌≡◌, ℕ}
+use Rattle.std.proofs.Common.{arith, false, sym, true, ◌∙◌, ◌≡◌, ℕ}
 use borrow.Author.Count.{below_more}
 use Rattle.descriptor_reader.specs.Views.{entry_after, has_iid}
 use Rattle.descriptor_reader.proofs.ViewLaws.{entry_tests, first_is, first_none}

@@ -1,4 +1,4 @@
-use Rattle.std.proofs.Common.{arith, refl, sym, ◌≡◌}
+use Rattle.std.proofs.Common.{arith, refl, sym}
 use Rattle.typelib_check.proofs.StepLaws.{part_here, step_on}
 use Rattle.typelib_faults.specs.Places.{method_at, method_end}
 use Rattle.descriptor_reader.proofs.LoopLaws.{value_here}

@@ -1,4 +1,4 @@
-use Rattle.std.proofs.Common.{ap, arith, refl, sym, ◌∙◌, ◌≡◌, Bool}
+use Rattle.std.proofs.Common.{ap, arith, refl, sym, ◌∙◌, ◌≡◌}
 use Rattle.lib_model.specs.declared.param_types.Param.{Param}
 use Rattle.lib_model.specs.Table.{is_opaque}
 use Rattle.typelib_faults.specs.declared.cursor.Cursor.{Cursor}
