@@ -213,7 +213,8 @@ fn push_constant(
     constants: &mut List<Constant>,
     member: &ScopeMember,
 ) -> Result<(), Memory>
-    ensures { OnOk result (constants.new ≡ constants.old ++ lowering.constants_of_member member.now) }
+    ensures { OnOk result
+        (constants.new ≡ constants.old ++ lowering.constants_of_member member.now) }
 {
     if let ScopeBody::Constant { kind, value } = &member.body {
         constants.push(Constant {
