@@ -1,6 +1,6 @@
 //! The methods and constants of a lowered interface.
 
-ghost use Rattle.std.specs.Prelude.{◌≡◌, ℕ, List, [], ◌∷◌, ◌++◌, false, All, Some, IfOk, IfSome, OnOk, length, map};
+ghost use Rattle.std.specs.Prelude.{◌≡◌, ℕ, List, ◌++◌, false, All, Some, IfOk, IfSome, OnOk, length};
 ghost use Rattle.std.specs.List.{flat_map};
 ghost use Rattle.prototype_lowering.specs.Lowering as lowering;
 ghost use Rattle.prototype_lowering.specs.Numbering.{AreMethodsOf, AreParamsOf, GainsMethodsOf, IsKnown, IsMethodOf, IsParamOf, IsSayable, IsSayableBody};
