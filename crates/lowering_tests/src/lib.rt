@@ -1,5 +1,11 @@
-//! The slots of the interfaces that XPIDL texts declare.
+//! The slots, libraries and tables of the interfaces that XPIDL texts declare.
 #![tactic(auto)]
 
+#[cfg(test)]
+mod declared;
+#[cfg(test)]
+mod libraries;
+#[cfg(test)]
+mod prototypes;
 #[cfg(test)]
 mod slots;

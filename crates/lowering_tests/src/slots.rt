@@ -1,40 +1,16 @@
-ghost use Rattle.std.specs.Prelude.{◌≤◌, ◌<◌, ◌^◌, ◌≡◌, length, IfOk};
-ghost use Rattle.idl_grammar.specs.ClosedFiles.{AreLawfulFiles, items_of};
+ghost use Rattle.idl_meaning.specs.Accepted.{IsAcceptedScope};
 
-use idl_grammar::{ClosedFile, parse};
-use idl_lexer::lex;
-use idl_names::{Scope, resolve};
+use crate::declared::scope_of;
+use idl_names::Scope;
 use std::alloc::Global;
-use std::process::Abort;
 use std::test::Fail;
 use vtable_layout::{LayoutError, layout, slot_of};
-use xp_base::{Bytes, List, MAX_TEXT};
-
-/// The one file of a text.
-fn closed(alloc: Global, text: &[u8]) -> Result<List<ClosedFile>, Fail>
-    requires { length text.now ≤ MAX_TEXT }
-    ensures lawful { IfOk result AreLawfulFiles }
-    ensures files { IfOk result (λ files. length files < 2 ^ 32) }
-    ensures items { IfOk result (λ files. items_of files < 2 ^ 32) }
-{
-    let tokens = lex(alloc, text)?;
-    let file = parse(alloc, &tokens)?;
-    let name = Bytes::copy(alloc, b"f.idl")?;
-    let mut files = List::new(alloc);
-    files.push(ClosedFile { name, file })?;
-    Ok(files)
-}
-
-/// What a text declares.
-fn scope_of(rt: &impl Abort, alloc: Global, text: &[u8]) -> Result<Scope, Fail> {
-    assert!(rt; text.len() <= MAX_TEXT);
-    let files = closed(alloc, text)?;
-    Ok(resolve(alloc, &files)?)
-}
+use xp_base::Bytes;
 
 /// The number of the first interface of a scope that has too many slots, or too many parents.
-fn too_many(rt: &impl Abort, alloc: Global, scope: &Scope) -> Result<Option<u32>, Fail> {
-    assert!(rt; scope.ifaces.len() <= 0xffff_ffff);
+fn too_many(alloc: Global, scope: &Scope) -> Result<Option<u32>, Fail>
+    requires { IsAcceptedScope scope.now }
+{
     match layout(alloc, scope) {
         Ok(_) => Ok(None),
         Err(LayoutError::TooMany { iface }) => Ok(Some(iface)),
@@ -77,7 +53,7 @@ fn slots_and_parents_have_limits(rt: HostRuntime) -> Result<(), Fail> {
     ];
     for (name, text, wanted) in rows.iter() {
         let scope = scope_of(&rt, rt.alloc(), text.as_slice())?;
-        assert_eq!(rt; too_many(&rt, rt.alloc(), &scope)?, *wanted, "of {name}");
+        assert_eq!(rt; too_many(rt.alloc(), &scope)?, *wanted, "of {name}");
     }
     Ok(())
 }
@@ -95,7 +71,6 @@ const FAMILY: &[u8] = b"
 #[test]
 fn slots_follow_those_of_the_parent(rt: HostRuntime) -> Result<(), Fail> {
     let scope = scope_of(&rt, rt.alloc(), FAMILY)?;
-    assert!(rt; scope.ifaces.len() <= 0xffff_ffff);
     let slots = layout(rt.alloc(), &scope)?;
     assert_eq!(rt;
         slots.first.as_slice(),

@@ -522,8 +522,9 @@ module _ (s : Scope) (ok : IsAcceptedScope s) where
               arith,
               sum_by-cons
                   (valid.own_slots (map (iface_of (directory_of s.ifaces)) (in_order s.ifaces)))
-                  (suc m) (first_of_chain (map (iface_of (directory_of s.ifaces)) (in_order s.ifaces))
-                  n (valid.parent_of (map (iface_of (directory_of s.ifaces)) (in_order s.ifaces))
+                  (suc m)
+                  (first_of_chain (map (iface_of (directory_of s.ifaces)) (in_order s.ifaces)) n
+                  (valid.parent_of (map (iface_of (directory_of s.ifaces)) (in_order s.ifaces))
                   (suc m))),
               own,
               sum,

@@ -44,8 +44,8 @@ method_flags getter setter notxpcom hidden argc context =
     bit GETTER.bits getter + bit SETTER.bits setter + bit NOTXPCOM.bits notxpcom
     + bit HIDDEN.bits hidden + bit OPTIONAL_ARGC.bits argc + bit IMPLICIT_JSCONTEXT.bits context
 
--- A string class is never passed out by a cell: the caller makes the string, whose address is passed
--- in, and the callee writes into it. It is then a dipper.
+-- A string class is never passed out by a cell: the caller makes the string, whose address is
+-- passed in, and the callee writes into it. It is then a dipper.
 abbrev pub goes_in : Dir → Bool → Bool
 goes_in Inward class = true
 goes_in Outward class = class
@@ -80,7 +80,8 @@ size_of p = unwrap_or p.size 0
 abbrev pub length_of : ScopeParam → ℕ
 length_of p = unwrap_or p.length (size_of p)
 
--- an interface: the one of this number in the scope, or one whose identifier another parameter gives
+-- an interface: the one of this number in the scope, or one whose identifier another parameter
+-- gives
 abbrev pub iface_elem : List ℕ → ℕ → Option ℕ → Elem
 iface_elem d k None = elems.Iface (number d k)
 iface_elem d k (Some iid) = elems.IidIs iid

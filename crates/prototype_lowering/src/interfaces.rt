@@ -1,7 +1,6 @@
 //! Lowered interfaces.
 
-ghost use Rattle.std.specs.Prelude.{◌≡◌, ◌<◌, ℕ, List, All, IfOk, IfSome, length, map, slice_get};
-ghost use Rattle.std.specs.List.{filter_map};
+ghost use Rattle.std.specs.Prelude.{◌≡◌, ◌<◌, All, IfOk, IfSome, length};
 ghost use Rattle.prototype_lowering.specs.Directory as directory;
 ghost use Rattle.prototype_lowering.specs.Numbering.{AreIfacesAt, InEachDirectory, IsBodyOf, IsIfaceOf, IsSayableIface};
 

@@ -1,6 +1,6 @@
 //! The methods and constants of a lowered interface.
 
-ghost use Rattle.std.specs.Prelude.{◌≡◌, ℕ, List, [], ◌∷◌, ◌++◌, false, All, Some, IfOk, IfSome, OnOk, length, map};
+ghost use Rattle.std.specs.Prelude.{◌≡◌, ℕ, List, ◌++◌, false, All, Some, IfOk, IfSome, OnOk, length};
 ghost use Rattle.std.specs.List.{flat_map};
 ghost use Rattle.prototype_lowering.specs.Lowering as lowering;
 ghost use Rattle.prototype_lowering.specs.Numbering.{AreMethodsOf, AreParamsOf, GainsMethodsOf, IsKnown, IsMethodOf, IsParamOf, IsSayable, IsSayableBody};
@@ -213,7 +213,8 @@ fn push_constant(
     constants: &mut List<Constant>,
     member: &ScopeMember,
 ) -> Result<(), Memory>
-    ensures { OnOk result (constants.new ≡ constants.old ++ lowering.constants_of_member member.now) }
+    ensures { OnOk result
+        (constants.new ≡ constants.old ++ lowering.constants_of_member member.now) }
 {
     if let ScopeBody::Constant { kind, value } = &member.body {
         constants.push(Constant {

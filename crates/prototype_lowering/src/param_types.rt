@@ -1,6 +1,6 @@
 //! The type of a lowered parameter.
 
-ghost use Rattle.std.specs.Prelude.{◌≡◌, ℕ, List, ◌<◌, length, IfSome};
+ghost use Rattle.std.specs.Prelude.{◌≡◌, ◌<◌, length};
 ghost use Rattle.std.specs.Option.{unwrap_or};
 ghost use Rattle.prototype_lowering.specs.Directory.{number};
 ghost use Rattle.prototype_lowering.specs.Lowering as lowering;

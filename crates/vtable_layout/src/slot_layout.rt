@@ -1,4 +1,4 @@
-ghost use Rattle.std.specs.Prelude.{◌≡◌, ◌<◌, ◌≤◌, ◌^◌, IfErr, IfOk, length, slice_index};
+ghost use Rattle.std.specs.Prelude.{◌≡◌, ◌<◌, ◌^◌, IfErr, IfOk, length, slice_index};
 ghost use Rattle.vtable_layout.specs.Layout.{AreSlotsOf, CountsOwn, IsLayoutFault, slot_count};
 ghost use Rattle.vtable_layout.specs.Slots.{parent_of};
 

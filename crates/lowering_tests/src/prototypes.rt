@@ -1,0 +1,215 @@
+//! The table that is read off the library of a text.
+
+use crate::declared::library_of;
+use call_model::{CType, MemberKind, Note, Pass, ProtoArg, Status};
+use lib_model::table_of;
+use std::test::Fail;
+
+/// An argument of which nothing is known but how it is passed, and its type.
+const PLAIN: ProtoArg = ProtoArg {
+    pass: Pass::ByValue,
+    ty: CType::Ptr,
+    optional: false,
+    note: Note::Plain,
+};
+
+const LONG: ProtoArg = ProtoArg {
+    ty: CType::I32,
+    ..PLAIN
+};
+
+const OPTIONAL_LONG: ProtoArg = ProtoArg {
+    optional: true,
+    ..LONG
+};
+
+const OCTET: ProtoArg = ProtoArg {
+    ty: CType::U8,
+    ..PLAIN
+};
+
+const UNSIGNED: ProtoArg = ProtoArg {
+    ty: CType::U32,
+    ..PLAIN
+};
+
+const DOUBLE: ProtoArg = ProtoArg {
+    ty: CType::F64,
+    ..PLAIN
+};
+
+/// The address of a value: a string of a class, or an identifier.
+const AT: ProtoArg = ProtoArg {
+    pass: Pass::ByRef,
+    ..PLAIN
+};
+
+/// The address of the scripting context.
+const CONTEXT: ProtoArg = ProtoArg {
+    note: Note::Context,
+    ..PLAIN
+};
+
+/// The number of optional arguments that were given.
+const ARGC: ProtoArg = ProtoArg {
+    note: Note::Argc,
+    ..OCTET
+};
+
+const GIVEN_LONG: ProtoArg = ProtoArg {
+    pass: Pass::ByCell { inward: false },
+    ..LONG
+};
+
+const GIVEN_UNSIGNED: ProtoArg = ProtoArg {
+    pass: Pass::ByCell { inward: false },
+    ..UNSIGNED
+};
+
+const GIVEN_DOUBLE: ProtoArg = ProtoArg {
+    pass: Pass::ByCell { inward: false },
+    ..DOUBLE
+};
+
+const CHANGED_LONG: ProtoArg = ProtoArg {
+    pass: Pass::ByCell { inward: true },
+    ..LONG
+};
+
+/// An array of shorts, whose size stands at position 1 and whose length at position 2.
+const SHORTS: ProtoArg = ProtoArg {
+    note: Note::Count {
+        size: 1,
+        at: 2,
+        elem: CType::I16,
+    },
+    ..PLAIN
+};
+
+/// An array of longs, whose size stands at position 2, behind the number of optional arguments.
+const LONGS: ProtoArg = ProtoArg {
+    note: Note::Count {
+        size: 2,
+        at: 2,
+        elem: CType::I32,
+    },
+    ..PLAIN
+};
+
+/// An object whose identifier stands at position 0.
+const OBJECT: ProtoArg = ProtoArg {
+    pass: Pass::ByCell { inward: false },
+    note: Note::IidAt(0),
+    ..PLAIN
+};
+
+/// Methods and attributes whose prototypes have each kind of argument.
+const TEXT: &[u8] = b"
+    [astring] native AString(x); [jsval] native Value(x);
+    native Object(x); [ref, nsid] native Identifier(x);
+    [uuid(00000001-0000-0000-0000-000000000000)] interface a {
+        long add(in long x, in long y);
+        [optional_argc] long pad(in long x, [optional] in long y);
+        [optional_argc] void log([optional] in long x);
+        [implicit_jscontext] long run(in octet x);
+        [implicit_jscontext, optional_argc] void say(in string x);
+        attribute AString text;
+        [implicit_jscontext] attribute double rate;
+        void part([array, size_is(n), length_is(m)] in short v, in unsigned long n,
+            out unsigned long m);
+        [optional_argc] void count([array, size_is(n)] in long v, [retval] out unsigned long n);
+        void query(in Identifier i, [iid_is(i), retval] out Object o);
+        void turn(inout long x);
+        [noscript] void hide(in long x);
+        [notxpcom] long raw(in long x);
+        void any(in Value x);
+    };";
+
+/// A slot: its name, what it is, and its status and prototype.
+type Row = (&'static [u8], MemberKind, Status, &'static [ProtoArg]);
+
+/// The slots of `TEXT`.
+const SLOTS: [Row; 16] = [
+    (
+        b"add",
+        MemberKind::Plain,
+        Status::Callable,
+        &[LONG, LONG, GIVEN_LONG],
+    ),
+    (
+        b"pad",
+        MemberKind::Plain,
+        Status::Callable,
+        &[LONG, OPTIONAL_LONG, ARGC, GIVEN_LONG],
+    ),
+    (
+        b"log",
+        MemberKind::Plain,
+        Status::Callable,
+        &[OPTIONAL_LONG, ARGC],
+    ),
+    (
+        b"run",
+        MemberKind::Plain,
+        Status::Callable,
+        &[OCTET, CONTEXT, GIVEN_LONG],
+    ),
+    (
+        b"say",
+        MemberKind::Plain,
+        Status::Callable,
+        &[PLAIN, CONTEXT, ARGC],
+    ),
+    (b"text", MemberKind::Get, Status::Callable, &[AT]),
+    (b"text", MemberKind::Set, Status::Callable, &[AT]),
+    (
+        b"rate",
+        MemberKind::Get,
+        Status::Callable,
+        &[CONTEXT, GIVEN_DOUBLE],
+    ),
+    (
+        b"rate",
+        MemberKind::Set,
+        Status::Callable,
+        &[CONTEXT, DOUBLE],
+    ),
+    (
+        b"part",
+        MemberKind::Plain,
+        Status::Callable,
+        &[SHORTS, UNSIGNED, GIVEN_UNSIGNED],
+    ),
+    (
+        b"count",
+        MemberKind::Plain,
+        Status::Callable,
+        &[LONGS, ARGC, GIVEN_UNSIGNED],
+    ),
+    (b"query", MemberKind::Plain, Status::Callable, &[AT, OBJECT]),
+    (
+        b"turn",
+        MemberKind::Plain,
+        Status::Callable,
+        &[CHANGED_LONG],
+    ),
+    (b"hide", MemberKind::Plain, Status::Hidden, &[]),
+    (b"raw", MemberKind::Plain, Status::NotXpcom, &[]),
+    (b"any", MemberKind::Plain, Status::Opaque, &[]),
+];
+
+#[test]
+fn members_have_these_prototypes(rt: HostRuntime) -> Result<(), Fail> {
+    let library = library_of(&rt, rt.alloc(), TEXT)?;
+    let table = table_of(rt.alloc(), &library)?;
+    assert_eq!(rt; table.ifaces.as_slice().len(), 1);
+    let slots = table.ifaces.as_slice()[0].slots.as_slice();
+    assert_eq!(rt; slots.len(), SLOTS.len());
+    for (slot, (name, kind, status, proto)) in slots.iter().zip(SLOTS) {
+        assert_eq!(rt; slot.name.as_slice(), name);
+        assert_eq!(rt; slot.kind, kind, "of {name:?}");
+        assert_eq!(rt; slot.status, status, "of {name:?}");
+        assert_eq!(rt; slot.proto.as_slice(), proto, "of {name:?}");
+    }
+    Ok(())
+}
