@@ -1,5 +1,5 @@
-//! Calls of a method by its index in an interface: the cells that its arguments are filled into, and
-//! the call from these, with the frame that it begins with and the stack that it needs.
+//! Calls of a method by its index in an interface: the cells that its arguments are filled into,
+//! and the call from these, with the frame that it begins with and the stack that it needs.
 #![tactic(auto)]
 
 mod args;

@@ -8,6 +8,8 @@
 #[cfg(test)]
 mod blocks;
 #[cfg(test)]
+mod calls;
+#[cfg(test)]
 mod frames;
 #[cfg(test)]
 mod memory;
