@@ -43,7 +43,7 @@ const NINE_DOUBLES: [CType; 11] = [
     CType::F64,
 ];
 
-/// Whether the registers hold these numbers.
+/// Whether the frame has these registers.
 fn has_registers(frame: &Frame, gprs: &[u64; 8], fprs: &[u64; 8]) -> bool {
     for i in 0..8 {
         if frame.gpr(i) != gprs[i as usize] || frame.fpr(i) != fprs[i as usize] {
@@ -53,53 +53,52 @@ fn has_registers(frame: &Frame, gprs: &[u64; 8], fprs: &[u64; 8]) -> bool {
     true
 }
 
+/// Whether a call fills the frame as it is to.
+fn is_filled(frame: &mut Frame, call: &Filled<'_>) -> bool {
+    if call.types.len() > 258 || call.types.len() != call.patterns.len() {
+        return false;
+    }
+    fill_frame::<Walk>(frame, call.types, call.patterns);
+    has_registers(frame, &call.gprs, &call.fprs)
+        && frame.stack() == call.stack
+        && frame.stack_len() as usize == call.stack.len()
+}
+
+/// Calls of one frame, in order.
+const CALLS: [Filled<'static>; 3] = [
+    Filled {
+        name: "seven longs",
+        types: &LONGS,
+        patterns: &[0x107d0, 1, 2, 3, 4, 5, 6, 7],
+        gprs: [0x107d0, 1, 2, 3, 4, 5, 0, 0],
+        fprs: [0; 8],
+        stack: &[6, 0, 0, 0, 0, 0, 0, 0, 7, 0, 0, 0, 0, 0, 0, 0],
+    },
+    Filled {
+        name: "nine doubles and a long",
+        types: &NINE_DOUBLES,
+        patterns: &[0x107d0, 1, 2, 7, 3, 4, 5, 6, 7, 8, 9],
+        gprs: [0x107d0, 7, 0, 0, 0, 0, 0, 0],
+        fprs: [1, 2, 3, 4, 5, 6, 7, 8],
+        stack: &[9, 0, 0, 0, 0, 0, 0, 0],
+    },
+    Filled {
+        name: "the object alone",
+        types: &[CType::Ptr],
+        patterns: &[0x107d0],
+        gprs: [0x107d0, 0, 0, 0, 0, 0, 0, 0],
+        fprs: [0; 8],
+        stack: &[],
+    },
+];
+
 // Nothing of an earlier call is left.
 #[test]
 fn a_frame_has_registers_and_stack_of_one_call(rt: HostRuntime) -> Result<(), Fail> {
-    let calls = [
-        Filled {
-            name: "seven longs",
-            types: &LONGS,
-            patterns: &[0x107d0, 1, 2, 3, 4, 5, 6, 7],
-            gprs: [0x107d0, 1, 2, 3, 4, 5, 0, 0],
-            fprs: [0; 8],
-            stack: &[6, 0, 0, 0, 0, 0, 0, 0, 7, 0, 0, 0, 0, 0, 0, 0],
-        },
-        Filled {
-            name: "nine doubles and a long",
-            types: &NINE_DOUBLES,
-            patterns: &[0x107d0, 1, 2, 7, 3, 4, 5, 6, 7, 8, 9],
-            gprs: [0x107d0, 7, 0, 0, 0, 0, 0, 0],
-            fprs: [1, 2, 3, 4, 5, 6, 7, 8],
-            stack: &[9, 0, 0, 0, 0, 0, 0, 0],
-        },
-        Filled {
-            name: "the object alone",
-            types: &[CType::Ptr],
-            patterns: &[0x107d0],
-            gprs: [0x107d0, 0, 0, 0, 0, 0, 0, 0],
-            fprs: [0; 8],
-            stack: &[],
-        },
-    ];
     let mut machine = Machine::new(rt.alloc(), Conv::SysV64)?;
     let frame = machine.frame_mut();
-    for call in &calls {
-        let paired = call.types.len() <= 258 && call.types.len() == call.patterns.len();
-        assert!(rt; paired, "{}", call.name);
-        fill_frame::<Walk>(frame, call.types, call.patterns);
-        assert!(rt;
-            has_registers(frame, &call.gprs, &call.fprs),
-            "{}",
-            call.name
-        );
-        assert_eq!(rt; frame.stack(), call.stack, "{}", call.name);
-        assert_eq!(rt;
-            frame.stack_len() as usize,
-            call.stack.len(),
-            "{}",
-            call.name
-        );
+    for call in &CALLS {
+        assert!(rt; is_filled(frame, call), "{}", call.name);
     }
     Ok(())
 }
@@ -120,24 +119,35 @@ fn has_place(frame: &Frame, at: Loc, n: u32) -> bool
     }
 }
 
+/// A location, and so many low bytes of what stands there, as a number.
+const OWNS: [(&str, Loc, u32, u64); 8] = [
+    ("a short in a register", Loc::Gpr(7), 2, 0x1122),
+    ("a whole register", Loc::Gpr(7), 8, 0xffff_0000_ffff_1122),
+    ("a float in its register", Loc::Fpr(0), 4, 0x8765_4321),
+    ("a byte of the stack", Loc::Stack(3), 1, 0xef),
+    ("two bytes of the stack", Loc::Stack(3), 2, 0xcdef),
+    ("four bytes of the stack", Loc::Stack(2), 4, 0x00cd_ef00),
+    (
+        "eight bytes of the stack",
+        Loc::Stack(8),
+        8,
+        0x0009_0807_0000_0000,
+    ),
+    ("no byte", Loc::Stack(16), 0, 0),
+];
+
+/// The own bytes of a location, as a number; None where it has not so many.
+fn owns(frame: &Frame, at: Loc, n: u32) -> Option<u64> {
+    if has_place(frame, at, n) {
+        Some(frame.own(at, n))
+    } else {
+        None
+    }
+}
+
 // What stands above the own bytes does not count.
 #[test]
 fn the_own_bytes_of_a_location_are_its_low_ones(rt: HostRuntime) -> Result<(), Fail> {
-    let owns = [
-        ("a short in a register", Loc::Gpr(7), 2, 0x1122),
-        ("a whole register", Loc::Gpr(7), 8, 0xffff_0000_ffff_1122),
-        ("a float in its register", Loc::Fpr(0), 4, 0x8765_4321),
-        ("a byte of the stack", Loc::Stack(3), 1, 0xef),
-        ("two bytes of the stack", Loc::Stack(3), 2, 0xcdef),
-        ("four bytes of the stack", Loc::Stack(2), 4, 0x00cd_ef00),
-        (
-            "eight bytes of the stack",
-            Loc::Stack(8),
-            8,
-            0x0009_0807_0000_0000,
-        ),
-        ("no byte", Loc::Stack(16), 0, 0),
-    ];
     let mut machine = Machine::new(rt.alloc(), Conv::SysV64)?;
     let frame = machine.frame_mut();
     frame.clear(16);
@@ -146,9 +156,8 @@ fn the_own_bytes_of_a_location_are_its_low_ones(rt: HostRuntime) -> Result<(), F
     frame.set_gpr(6, 6);
     frame.set_stack(3, Width::W2, 0x00ab_cdef);
     frame.set_stack_bytes(12, &[7, 8, 9]);
-    for (name, at, n, value) in owns {
-        assert!(rt; has_place(frame, at, n), "{name}");
-        assert_eq!(rt; frame.own(at, n), value, "{name}");
+    for (name, at, n, value) in &OWNS {
+        assert!(rt; owns(frame, *at, *n) == Some(*value), "{name}");
     }
     Ok(())
 }

@@ -81,121 +81,124 @@ fn passes(call: &Call<'_>) -> bool {
     }
 }
 
+/// Where each convention passes arguments.
+const CALLS: [Call<'static>; 9] = [
+    Call {
+        name: "sysv64: the last two of seven longs stand on the stack",
+        conv: Conv::SysV64,
+        types: &SEVEN_LONGS,
+        locations: &[
+            Loc::Gpr(0),
+            Loc::Gpr(1),
+            Loc::Gpr(2),
+            Loc::Gpr(3),
+            Loc::Gpr(4),
+            Loc::Gpr(5),
+            Loc::Stack(0),
+            Loc::Stack(8),
+        ],
+        stack_len: 16,
+    },
+    Call {
+        name: "sysv64: the ninth of nine doubles stands on the stack",
+        conv: Conv::SysV64,
+        types: &NINE_DOUBLES,
+        locations: &BY_CLASS,
+        stack_len: 8,
+    },
+    Call {
+        name: "i386: a long long stands at any word",
+        conv: Conv::I386,
+        types: &LONG_LONG,
+        locations: &[Loc::Stack(0), Loc::Stack(4), Loc::Stack(12), Loc::Stack(16)],
+        stack_len: 20,
+    },
+    Call {
+        name: "aapcs64: the last of eight longs stands on the stack",
+        conv: Conv::Aapcs64,
+        types: &EIGHT_LONGS,
+        locations: &[
+            Loc::Gpr(0),
+            Loc::Gpr(1),
+            Loc::Gpr(2),
+            Loc::Gpr(3),
+            Loc::Gpr(4),
+            Loc::Gpr(5),
+            Loc::Gpr(6),
+            Loc::Gpr(7),
+            Loc::Stack(0),
+        ],
+        stack_len: 8,
+    },
+    Call {
+        name: "aapcs64: the ninth of nine doubles stands on the stack",
+        conv: Conv::Aapcs64,
+        types: &NINE_DOUBLES,
+        locations: &BY_CLASS,
+        stack_len: 8,
+    },
+    Call {
+        name: "ms64: each register goes by its position",
+        conv: Conv::Ms64,
+        types: &NINE_DOUBLES,
+        locations: &[
+            Loc::Gpr(0),
+            Loc::Fpr(1),
+            Loc::Fpr(2),
+            Loc::Gpr(3),
+            Loc::Stack(32),
+            Loc::Stack(40),
+            Loc::Stack(48),
+            Loc::Stack(56),
+            Loc::Stack(64),
+            Loc::Stack(72),
+            Loc::Stack(80),
+        ],
+        stack_len: 88,
+    },
+    Call {
+        name: "ms64: one short has the home area",
+        conv: Conv::Ms64,
+        types: &ONE_SHORT,
+        locations: &[Loc::Gpr(0), Loc::Gpr(1)],
+        stack_len: 32,
+    },
+    Call {
+        name: "aapcs32: a long long begins at a multiple of 8",
+        conv: Conv::Aapcs32,
+        types: &LONG_LONG,
+        locations: &[Loc::Stack(0), Loc::Stack(8), Loc::Stack(16), Loc::Stack(20)],
+        stack_len: 24,
+    },
+    Call {
+        name: "aapcs32: one short has the four core registers",
+        conv: Conv::Aapcs32,
+        types: &ONE_SHORT,
+        locations: &[Loc::Stack(0), Loc::Stack(4)],
+        stack_len: 16,
+    },
+];
+
 #[test]
 fn each_convention_passes_arguments_at_its_places(rt: HostRuntime) {
-    let calls = [
-        Call {
-            name: "sysv64: the last two of seven longs stand on the stack",
-            conv: Conv::SysV64,
-            types: &SEVEN_LONGS,
-            locations: &[
-                Loc::Gpr(0),
-                Loc::Gpr(1),
-                Loc::Gpr(2),
-                Loc::Gpr(3),
-                Loc::Gpr(4),
-                Loc::Gpr(5),
-                Loc::Stack(0),
-                Loc::Stack(8),
-            ],
-            stack_len: 16,
-        },
-        Call {
-            name: "sysv64: the ninth of nine doubles stands on the stack",
-            conv: Conv::SysV64,
-            types: &NINE_DOUBLES,
-            locations: &BY_CLASS,
-            stack_len: 8,
-        },
-        Call {
-            name: "i386: a long long stands at any word",
-            conv: Conv::I386,
-            types: &LONG_LONG,
-            locations: &[Loc::Stack(0), Loc::Stack(4), Loc::Stack(12), Loc::Stack(16)],
-            stack_len: 20,
-        },
-        Call {
-            name: "aapcs64: the last of eight longs stands on the stack",
-            conv: Conv::Aapcs64,
-            types: &EIGHT_LONGS,
-            locations: &[
-                Loc::Gpr(0),
-                Loc::Gpr(1),
-                Loc::Gpr(2),
-                Loc::Gpr(3),
-                Loc::Gpr(4),
-                Loc::Gpr(5),
-                Loc::Gpr(6),
-                Loc::Gpr(7),
-                Loc::Stack(0),
-            ],
-            stack_len: 8,
-        },
-        Call {
-            name: "aapcs64: the ninth of nine doubles stands on the stack",
-            conv: Conv::Aapcs64,
-            types: &NINE_DOUBLES,
-            locations: &BY_CLASS,
-            stack_len: 8,
-        },
-        Call {
-            name: "ms64: each register goes by its position",
-            conv: Conv::Ms64,
-            types: &NINE_DOUBLES,
-            locations: &[
-                Loc::Gpr(0),
-                Loc::Fpr(1),
-                Loc::Fpr(2),
-                Loc::Gpr(3),
-                Loc::Stack(32),
-                Loc::Stack(40),
-                Loc::Stack(48),
-                Loc::Stack(56),
-                Loc::Stack(64),
-                Loc::Stack(72),
-                Loc::Stack(80),
-            ],
-            stack_len: 88,
-        },
-        Call {
-            name: "ms64: one short has the home area",
-            conv: Conv::Ms64,
-            types: &ONE_SHORT,
-            locations: &[Loc::Gpr(0), Loc::Gpr(1)],
-            stack_len: 32,
-        },
-        Call {
-            name: "aapcs32: a long long begins at a multiple of 8",
-            conv: Conv::Aapcs32,
-            types: &LONG_LONG,
-            locations: &[Loc::Stack(0), Loc::Stack(8), Loc::Stack(16), Loc::Stack(20)],
-            stack_len: 24,
-        },
-        Call {
-            name: "aapcs32: one short has the four core registers",
-            conv: Conv::Aapcs32,
-            types: &ONE_SHORT,
-            locations: &[Loc::Stack(0), Loc::Stack(4)],
-            stack_len: 16,
-        },
-    ];
-    for call in &calls {
+    for call in &CALLS {
         assert!(rt; passes(call), "{}", call.name);
     }
 }
 
+/// A convention, its word, and its general and float registers.
+const STANDARDS: [(&str, Conv, u32, u8, u8); 5] = [
+    ("sysv64", Conv::SysV64, 8, 6, 8),
+    ("i386", Conv::I386, 4, 0, 0),
+    ("aapcs64", Conv::Aapcs64, 8, 8, 8),
+    ("ms64", Conv::Ms64, 8, 4, 4),
+    ("aapcs32", Conv::Aapcs32, 4, 0, 0),
+];
+
 #[test]
 fn words_and_registers_are_those_of_the_standards(rt: HostRuntime) {
-    let standards = [
-        ("sysv64", Conv::SysV64, 8, 6, 8),
-        ("i386", Conv::I386, 4, 0, 0),
-        ("aapcs64", Conv::Aapcs64, 8, 8, 8),
-        ("ms64", Conv::Ms64, 8, 4, 4),
-        ("aapcs32", Conv::Aapcs32, 4, 0, 0),
-    ];
-    for (name, conv, word, gprs, fprs) in standards {
-        assert_eq!(rt; word_of(conv), word, "{name}");
-        assert_eq!(rt; gprs_of(conv), gprs, "{name}");
-        assert_eq!(rt; fprs_of(conv), fprs, "{name}");
+    for (name, conv, word, gprs, fprs) in &STANDARDS {
+        let found = (word_of(*conv), gprs_of(*conv), fprs_of(*conv));
+        assert!(rt; found == (*word, *gprs, *fprs), "{name}");
     }
 }
