@@ -1,3 +1,8 @@
-pub mod InputLaws
+pub mod CallLaws
+pub mod CommandLaws
+pub mod CompileLaws
+pub mod Ending
+pub mod Fetching
+pub mod Firsts
+pub mod Outcomes
 pub mod RunLaws
-pub mod WorkLaws

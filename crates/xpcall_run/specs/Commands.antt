@@ -1,8 +1,14 @@
--- Which words are a command, and which.
-use Rattle.std.specs.Prelude.{ℕ, Bool, ◌&&◌, nat_le, List, [], ◌∷◌, length, Option, Some, None, codes, if◌then◌else◌}
+-- Which words are a command, and which; and the work that each command is.
+use Rattle.std.specs.Prelude.{◌≡◌, ℕ, Bool, ◌&&◌, nat_le, List, [], ◌∷◌, length, map, Option, Some, None, codes, if◌then◌else◌, String, string_bytes}
 use Rattle.std.specs.Str.{bytes_eq}
 use Rattle.xpcall_run.specs.declared.commands.Command.{Command}
 use Rattle.xpcall_run.specs.declared.commands.Command.TheVariants.{Compile, Call}
+use Rattle.xpcall_run.specs.declared.failures.Refusal.TheVariants.{Usage}
+use Rattle.xpcall_run.specs.CallWork.{call_work}
+use Rattle.xpcall_run.specs.CompileWork.{compile_work}
+use Rattle.xpcall_run.specs.Works.{Work, settles}
+
+-- ---- the words
 
 -- the name of a file has 1 to 255 bytes
 abbrev pub is_file_name : List ℕ → Bool
@@ -10,12 +16,14 @@ is_file_name name = nat_le 1 (length name) && nat_le (length name) 255
 
 -- `compile` and the name of a file
 abbrev pub compile_of : (verb name : List ℕ) → Option Command
-compile_of verb name = if bytes_eq verb (codes "compile") && is_file_name name then Some (Compile name) else None
+compile_of verb name =
+    if bytes_eq verb (codes "compile") && is_file_name name then Some (Compile name) else None
 
 -- `call`, the word of the one convention so far, and the names of a typelib and a script
 abbrev pub call_of : (verb convention typelib script : List ℕ) → Option Command
 call_of verb convention typelib script =
-    if bytes_eq verb (codes "call") && bytes_eq convention (codes "sysv64") && is_file_name typelib && is_file_name script
+    if bytes_eq verb (codes "call") && bytes_eq convention (codes "sysv64")
+    && is_file_name typelib && is_file_name script
     then Some (Call typelib script)
     else None
 
@@ -24,3 +32,18 @@ abbrev pub command_of : List (List ℕ) → Option Command
 command_of (verb ∷ name ∷ []) = compile_of verb name
 command_of (verb ∷ convention ∷ typelib ∷ script ∷ []) = call_of verb convention typelib script
 command_of _ = None
+
+-- the command that the words of a command line are
+abbrev pub asked : {Z : Type 0} → List (String Z) → Option Command
+asked words = command_of (map string_bytes words)
+
+-- ---- the works
+
+abbrev pub command_work : Command → Work
+command_work (Compile name) = compile_work name
+command_work (Call typelib script) = call_work typelib script
+
+-- words that are no command are refused, and no file is asked for
+abbrev pub work_of : Option Command → Work
+work_of None = settles (λ text. ⊥) (λ refusal. refusal ≡ Usage)
+work_of (Some command) = command_work command

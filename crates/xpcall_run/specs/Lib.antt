@@ -1,7 +1,8 @@
+pub mod CallWork
 pub mod Commands
-pub mod FaultText
+pub mod CompileWork
+pub mod Endings
+pub mod FailureText
 pub mod Headline
-pub mod Meaning
-pub mod Needs
-pub mod Reporting
-pub mod Stops
+pub mod Sides
+pub mod Works

@@ -1,14 +1,10 @@
 //! The command `call`.
 
-ghost use Rattle.std.specs.Prelude.{◌≡◌, ◌≤◌, ℕ, List, IfErr, IfOk, OnOk, Some, length};
-ghost use Rattle.xp_base.specs.Causes.{Rose};
-ghost use Rattle.xp_base.specs.Files.{Files, file_in};
+ghost use Rattle.std.specs.Prelude.{◌≡◌, ◌≤◌, IfErr, IfOk, OnOk, length};
 ghost use Rattle.script_run.specs.ThinScripts.{IsThinScript};
-ghost use Rattle.xpcall_run.specs.Headline.{Asks, HasWritten, IsFirst};
-ghost use Rattle.xpcall_run.specs.Meaning.{DenotesThin, RefusesScript, RefusesTypelib};
-ghost use Rattle.xpcall_run.specs.Needs.{script, typelib};
-ghost use Rattle.xpcall_run.specs.Stops.{CommandStops, IsFile, Stops};
-ghost use Rattle.xpcall_run.specs.declared.commands.Command.TheVariants.{Call};
+ghost use Rattle.xpcall_run.specs.CallWork.{DenotesThin, HasBoth, RefusesScript, RefusesTypelib, call_work};
+ghost use Rattle.xpcall_run.specs.Endings.{HasWritten, IsFirst, IsRefused, Stops};
+ghost use Rattle.xpcall_run.specs.Sides.{reads_of, side_of};
 
 use crate::failures::{Failure, FileFault};
 use crate::fetches::fetch;
@@ -26,8 +22,8 @@ struct CallFiles {
     script: Bytes,
 }
 
-/// Makes the calls of the script `script` over the typelib `typelib`, under the System V ABI for x86-64, and writes what
-/// came of them to `out`; or says why it can't.
+/// Makes the calls of the script `script` over the typelib `typelib`, under the System V ABI for
+/// x86-64, and writes what came of them to `out`; or says why it can't.
 pub fn call<S: Source, O: Sink>(
     alloc: Global,
     typelib: &Bytes,
@@ -35,12 +31,11 @@ pub fn call<S: Source, O: Sink>(
     files: &mut S,
     out: &mut O,
 ) -> Result<(), Failure>
-    ensures ok { (words : List (List ℕ)) → Asks words (Call typelib.now script.now)
-        → OnOk result (HasWritten words (S.files files.old) (O.written out.old) (O.written out.new)) }
-    ensures err { (words : List (List ℕ)) → Asks words (Call typelib.now script.now)
-        → IfErr result (IsFirst words (S.files files.old)
-        (Rose (S.faults files.old) (S.faults files.new)) (Rose (O.faults out.old) (O.faults out.new))
-        (O.written out.old) (O.written out.new)) }
+    ensures ok { OnOk result (HasWritten (call_work typelib.now script.now) (S.files files.old)
+        (side_of O.written O.faults out.old out.new)) }
+    ensures err { IfErr result (IsFirst (call_work typelib.now script.now)
+        (reads_of S.files S.faults files.old files.new)
+        (side_of O.written O.faults out.old out.new)) }
     ensures same_files { S.files files.new ≡ S.files files.old }
 {
     let found = fetch_both(alloc, typelib, script, files)?;
@@ -57,11 +52,10 @@ fn fetch_both<S: Source>(
     script: &Bytes,
     files: &mut S,
 ) -> Result<CallFiles, Failure>
-    ensures typelib { (told : Files) → S.files files.old ≡ Some told → IfOk result (λ found. file_in told typelib.now ≡ Some found.typelib) }
-    ensures script { (told : Files) → S.files files.old ≡ Some told → IfOk result (λ found. file_in told script.now ≡ Some found.script) }
-    ensures typelib_within { IfOk result (λ found. length found.typelib ≤ MAX_TYPELIB) }
-    ensures script_within { IfOk result (λ found. length found.script ≤ MAX_TEXT) }
-    ensures err { IfErr result (CommandStops (S.files files.old) (Call typelib.now script.now) (Rose (S.faults files.old) (S.faults files.new))) }
+    ensures both { IfOk result (λ found. HasBoth (S.files files.old) typelib.now script.now
+        found.typelib found.script) }
+    ensures err { IfErr result (Stops (call_work typelib.now script.now)
+        (reads_of S.files S.faults files.old files.new)) }
     ensures same_files { S.files files.new ≡ S.files files.old }
 {
     let typelib = fetch(alloc, typelib, MAX_TYPELIB, files)?;
@@ -73,13 +67,13 @@ fn fetch_both<S: Source>(
 fn thin_library<'a>(alloc: Global, name: &Bytes, bytes: &'a [u8]) -> Result<Typelib<'a>, Failure>
     requires { length bytes.now ≤ MAX_TYPELIB }
     ensures ok { IfOk result (λ lib. DenotesThin bytes.now lib) }
-    ensures err { IfErr result (Stops (IsFile typelib name.now) ⊥ (RefusesTypelib name.now bytes.now)) }
+    ensures err { IfErr result (IsRefused (RefusesTypelib name.now bytes.now)) }
 {
     let Ok(lib) = Typelib::check(bytes) else {
-        return Err(Failure::refused(alloc, name, FileFault::Typelib));
+        return Err(Failure::of_file(alloc, name, FileFault::Typelib));
     };
     if !lib.thin() {
-        return Err(Failure::refused(alloc, name, FileFault::Typelib));
+        return Err(Failure::of_file(alloc, name, FileFault::Typelib));
     }
     Ok(lib)
 }
@@ -88,12 +82,12 @@ fn thin_library<'a>(alloc: Global, name: &Bytes, bytes: &'a [u8]) -> Result<Type
 fn thin_script(alloc: Global, name: &Bytes, bytes: &[u8]) -> Result<Script, Failure>
     requires { length bytes.now ≤ MAX_TEXT }
     ensures ok { IfOk result (λ script. IsThinScript bytes.now script) }
-    ensures err { IfErr result (Stops (IsFile script name.now) ⊥ (RefusesScript name.now bytes.now)) }
+    ensures err { IfErr result (IsRefused (RefusesScript name.now bytes.now)) }
 {
     match read_thin(alloc, bytes) {
         Ok(script) => Ok(script),
         Err(ScriptError::Fault { line }) => {
-            Err(Failure::refused(alloc, name, FileFault::Script { line }))
+            Err(Failure::of_file(alloc, name, FileFault::Script { line }))
         }
         Err(ScriptError::Memory) => Err(Failure::OutOfMemory),
     }

@@ -16,7 +16,8 @@ const LONGEST_NAME: usize = 255;
 pub enum Command {
     /// Compile the IDL file of this name.
     Compile(Bytes),
-    /// Make the calls of the script of this name over the typelib of this name, under the System V ABI for x86-64.
+    /// Make the calls of the script of this name over the typelib of this name, under the System V
+    /// ABI for x86-64.
     Call { typelib: Bytes, script: Bytes },
 }
 
@@ -55,7 +56,8 @@ fn call_command(
     typelib: &str,
     script: &str,
 ) -> Result<Option<Command>, Memory>
-    ensures { IfOk result (λ command. command ≡ specs.call_of verb.now convention.now typelib.now script.now) }
+    ensures { IfOk result (λ command.
+        command ≡ specs.call_of verb.now convention.now typelib.now script.now) }
 {
     if verb != "call" || convention != "sysv64" {
         return Ok(None);

@@ -1,12 +1,10 @@
 //! The command `compile`.
 
 ghost use Rattle.std.specs.Prelude.{◌≡◌, ◌≤◌, ℕ, List, IfErr, IfOk, OnOk, length};
-ghost use Rattle.xp_base.specs.Causes.{Rose};
-ghost use Rattle.xpcall_run.specs.Headline.{Asks, HasWritten, IsFirst};
-ghost use Rattle.xpcall_run.specs.Meaning.{RefusesIdl, WritesTypelib};
-ghost use Rattle.xpcall_run.specs.Needs.{idl_text};
-ghost use Rattle.xpcall_run.specs.Stops.{CommandStops, CommandWrites, IsFile, Stops};
-ghost use Rattle.xpcall_run.specs.declared.commands.Command.TheVariants.{Compile};
+ghost use Rattle.xpcall_run.specs.CompileWork.{RefusesIdl, WritesTypelib, compile_work};
+ghost use Rattle.xpcall_run.specs.Endings.{HasWritten, IsFirst, IsRefused, Stops};
+ghost use Rattle.xpcall_run.specs.Sides.{reads_of, side_of};
+ghost use Rattle.xpcall_run.specs.Works.{Written};
 
 use crate::failures::{Failure, FileFault};
 use crate::fetches::fetch;
@@ -21,12 +19,11 @@ pub fn compile<S: Source, O: Sink>(
     files: &mut S,
     out: &mut O,
 ) -> Result<(), Failure>
-    ensures ok { (words : List (List ℕ)) → Asks words (Compile name.now)
-        → OnOk result (HasWritten words (S.files files.old) (O.written out.old) (O.written out.new)) }
-    ensures err { (words : List (List ℕ)) → Asks words (Compile name.now)
-        → IfErr result (IsFirst words (S.files files.old)
-        (Rose (S.faults files.old) (S.faults files.new)) (Rose (O.faults out.old) (O.faults out.new))
-        (O.written out.old) (O.written out.new)) }
+    ensures ok { OnOk result (HasWritten (compile_work name.now) (S.files files.old)
+        (side_of O.written O.faults out.old out.new)) }
+    ensures err { IfErr result (IsFirst (compile_work name.now)
+        (reads_of S.files S.faults files.old files.new)
+        (side_of O.written O.faults out.old out.new)) }
     ensures same_files { S.files files.new ≡ S.files files.old }
 {
     let typelib = typelib_of(alloc, name, files)?;
@@ -36,8 +33,10 @@ pub fn compile<S: Source, O: Sink>(
 
 /// The typelib of the IDL file `name`, or why there is none.
 fn typelib_of<S: Source>(alloc: Global, name: &Bytes, files: &mut S) -> Result<Bytes, Failure>
-    ensures written { IfOk result (CommandWrites (S.files files.old) (Compile name.now)) }
-    ensures err { IfErr result (CommandStops (S.files files.old) (Compile name.now) (Rose (S.faults files.old) (S.faults files.new))) }
+    ensures ok { IfOk result (λ text. (compile_work name.now).comes (S.files files.old)
+        (Written text)) }
+    ensures err { IfErr result (Stops (compile_work name.now)
+        (reads_of S.files S.faults files.old files.new)) }
     ensures same_files { S.files files.new ≡ S.files files.old }
 {
     let bytes = fetch(alloc, name, MAX_TEXT, files)?;
@@ -47,18 +46,18 @@ fn typelib_of<S: Source>(alloc: Global, name: &Bytes, files: &mut S) -> Result<B
 /// The typelib of the IDL file `name`, which has these bytes, or why there is none.
 fn compile_bytes(alloc: Global, name: &Bytes, bytes: &[u8]) -> Result<Bytes, Failure>
     requires { length bytes.now ≤ MAX_TEXT }
-    ensures written { IfOk result (WritesTypelib bytes.now) }
-    ensures err { IfErr result (Stops (IsFile idl_text name.now) ⊥ (RefusesIdl name.now bytes.now)) }
+    ensures ok { IfOk result (WritesTypelib bytes.now) }
+    ensures err { IfErr result (IsRefused (RefusesIdl name.now bytes.now)) }
 {
     match compile_thin(alloc, bytes) {
         Ok(typelib) => Ok(typelib),
         Err(ThinError::Token { line }) => {
-            Err(Failure::refused(alloc, name, FileFault::Token { line }))
+            Err(Failure::of_file(alloc, name, FileFault::Token { line }))
         }
         Err(ThinError::Syntax { line }) => {
-            Err(Failure::refused(alloc, name, FileFault::Syntax { line }))
+            Err(Failure::of_file(alloc, name, FileFault::Syntax { line }))
         }
-        Err(ThinError::Form) => Err(Failure::refused(alloc, name, FileFault::Form)),
+        Err(ThinError::Form) => Err(Failure::of_file(alloc, name, FileFault::Form)),
         Err(ThinError::Memory) => Err(Failure::OutOfMemory),
     }
 }

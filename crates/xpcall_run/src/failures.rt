@@ -1,9 +1,11 @@
 //! What a run can fail by.
 
-ghost use Rattle.std.specs.Prelude.{◌≡◌, ◌⊎◌};
+ghost use Rattle.std.specs.Prelude.{◌≡◌};
 ghost use Rattle.xp_base.specs.Causes.{run_fault_of};
-ghost use Rattle.xpcall_run.specs.FaultText.{fault_status, output_failure, status_of};
+ghost use Rattle.xpcall_run.specs.Endings.{IsRefused};
+ghost use Rattle.xpcall_run.specs.FailureText.{fault_status, output_failure, refusal_status, status_of};
 ghost use Rattle.xpcall_run.specs.declared.failures.Failure.TheVariants.{OutOfMemory as NoMemory};
+ghost use Rattle.xpcall_run.specs.declared.failures.Refusal.TheVariants.{OfFile};
 
 use std::alloc::Global;
 use xp_base::{Bytes, Memory, RunFault, SinkError};
@@ -23,8 +25,8 @@ pub enum FileFault {
     TooLong,
     /// The text has no tokens. The first place at which none begins is on this line.
     Token { line: u32 },
-    /// The text's tokens are no IDL file. This is the line of the first one that cannot go on, or of the last one where
-    /// more would have to follow it.
+    /// The text's tokens are no IDL file. This is the line of the first one that cannot go on, or
+    /// of the last one where more would have to follow it.
     Syntax { line: u32 },
     /// The text is an IDL file of a form that can't be compiled yet.
     Form,
@@ -34,19 +36,28 @@ pub enum FileFault {
     Script { line: u32 },
 }
 
+/// What a run refuses: an answer that the words and the files alone determine.
+#[derive(Debug, Drop)]
+pub enum Refusal {
+    /// The words are no command.
+    Usage,
+    /// The file of this name has this fault.
+    OfFile { name: Bytes, fault: FileFault },
+    /// The files of a typelib have the fault of this code together: no one of them has it.
+    OfFiles { code: u8 },
+}
+
 /// Why a run did not do what it was asked to.
 #[derive(Debug, Drop)]
 pub enum Failure {
-    /// The words are no command.
-    Usage,
     /// The file of this name could not be read.
     CannotRead(Bytes),
     /// The output could not be written.
     CannotWrite,
     /// There was no memory.
     OutOfMemory,
-    /// The file of this name has this fault.
-    Refused { name: Bytes, fault: FileFault },
+    /// What was asked for is refused.
+    Refused(Refusal),
 }
 
 impl From<Memory> for Failure {
@@ -91,13 +102,27 @@ impl FileFault {
     }
 }
 
+impl Refusal {
+    /// The status that the program ends with which refuses this.
+    fn status(&self) -> u8
+        ensures { result ≡ refusal_status self.now }
+    {
+        match self {
+            Refusal::Usage => 2,
+            Refusal::OfFile { fault, .. } => fault.status(),
+            Refusal::OfFiles { .. } => 10,
+        }
+    }
+}
+
 impl Failure {
-    /// The failure of a run that refuses the file of this name for this; or want of memory for the name.
-    pub fn refused(alloc: Global, name: &Bytes, fault: FileFault) -> Failure
-        ensures { (result ≡ Failure.OutOfMemory) ⊎ (result ≡ Failure.Refused name.now fault) }
+    /// The failure of a run that refuses the file of this name for this; or want of memory for the
+    /// name.
+    pub fn of_file(alloc: Global, name: &Bytes, fault: FileFault) -> Failure
+        ensures { IsRefused (λ refusal. refusal ≡ OfFile name.now fault) result }
     {
         match Bytes::copy(alloc, name.as_slice()) {
-            Ok(name) => Failure::Refused { name, fault },
+            Ok(name) => Failure::Refused(Refusal::OfFile { name, fault }),
             Err(Memory) => Failure::OutOfMemory,
         }
     }
@@ -107,11 +132,10 @@ impl Failure {
         ensures { result ≡ status_of self.now }
     {
         match self {
-            Failure::Usage => 2,
             Failure::CannotRead(_) => 3,
             Failure::CannotWrite => CANNOT_WRITE,
             Failure::OutOfMemory => OUT_OF_MEMORY,
-            Failure::Refused { fault, .. } => fault.status(),
+            Failure::Refused(refusal) => refusal.status(),
         }
     }
 }

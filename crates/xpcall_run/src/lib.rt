@@ -1,4 +1,5 @@
-//! The top call of xpcall: `run` does all that the program does, over any source of files and any sinks.
+//! The top call of xpcall: `run` does all that the program does, over any source of files and any
+//! sinks.
 #![tactic(auto)]
 
 mod calls;
@@ -10,5 +11,5 @@ mod reports;
 mod running;
 
 pub use commands::Command;
-pub use failures::{Failure, FileFault, OUT_OF_MEMORY};
+pub use failures::{Failure, FileFault, OUT_OF_MEMORY, Refusal};
 pub use running::run;

@@ -1,19 +1,20 @@
 //! The report of a failure.
 
 ghost use Rattle.std.specs.Prelude.{◌≡◌, ◌≤◌, ◌++◌, OnErr, OnOk};
-ghost use Rattle.xp_base.specs.Causes.{Rose, SinkCause};
+ghost use Rattle.xp_base.specs.Causes.{SinkCause};
 ghost use Rattle.xp_base.specs.Written.{Gained, GainedPrefix};
-ghost use Rattle.xpcall_run.specs.FaultText.{at_line, failure_text, fault_text, line_of};
-ghost use Rattle.xpcall_run.specs.Reporting.{Reports};
+ghost use Rattle.xpcall_run.specs.Endings.{Reports};
+ghost use Rattle.xpcall_run.specs.FailureText.{at_line, code_text, failure_text, fault_text, line_of, refusal_text};
+ghost use Rattle.xpcall_run.specs.Sides.{side_of};
 
-use crate::failures::{CANNOT_WRITE, Failure, FileFault, OUT_OF_MEMORY};
+use crate::failures::{CANNOT_WRITE, Failure, FileFault, OUT_OF_MEMORY, Refusal};
 use std::alloc::Global;
 use xp_base::{Bytes, Sink, SinkError, dec_text, put_all};
 
-/// Writes the failure's text to `err` and gives the status to end with: the failure's own, or 4 where the text could not be
-/// written, or 5 where there was no memory for it.
+/// Writes the failure's text to `err` and gives the status to end with: the failure's own, or 4 where
+/// the text could not be written, or 5 where there was no memory for it.
 pub fn report<E: Sink>(alloc: Global, failure: &Failure, err: &mut E) -> u8
-    ensures { Reports failure.now (E.written err.old) (E.written err.new) (Rose (E.faults err.old) (E.faults err.new)) result }
+    ensures { Reports failure.now (side_of E.written E.faults err.old err.new) result }
 {
     match put_failure(alloc, failure, err) {
         Ok(()) => failure.status(),
@@ -23,22 +24,50 @@ pub fn report<E: Sink>(alloc: Global, failure: &Failure, err: &mut E) -> u8
 }
 
 /// Puts the text of a failure.
-#[tactic(auto, unfolding(crate::specs::FaultText::failure_text))]
+#[tactic(auto, unfolding(crate::specs::FailureText::failure_text))]
 fn put_failure<E: Sink>(alloc: Global, failure: &Failure, err: &mut E) -> Result<(), SinkError>
-    ensures ok { OnOk result (Gained (E.written err.old) (E.written err.new) (failure_text failure.now)) }
-    ensures err { OnErr result (GainedPrefix (E.written err.old) (E.written err.new) (failure_text failure.now)) }
+    ensures ok { OnOk result (Gained (E.written err.old) (E.written err.new)
+        (failure_text failure.now)) }
+    ensures err { OnErr result (GainedPrefix (E.written err.old) (E.written err.new)
+        (failure_text failure.now)) }
     ensures cause { SinkCause (E.faults err.old) (E.faults err.new) result }
 {
     match failure {
-        Failure::Usage => put_all(
-            err,
-            b"usage: xpcall compile FILE... | dump XPT | call CONV XPT SCRIPT | big N\n",
-        ),
         Failure::CannotRead(name) => put_framed(alloc, b"cannot read ", name, b"\n", err),
         Failure::CannotWrite => put_all(err, b"cannot write\n"),
         Failure::OutOfMemory => put_all(err, b"out of memory\n"),
-        Failure::Refused { name, fault } => put_fault(alloc, name, *fault, err),
+        Failure::Refused(refusal) => put_refusal(alloc, refusal, err),
     }
+}
+
+/// Puts what is said of a refusal, a line.
+fn put_refusal<E: Sink>(alloc: Global, refusal: &Refusal, err: &mut E) -> Result<(), SinkError>
+    ensures ok { OnOk result (Gained (E.written err.old) (E.written err.new)
+        (line_of (refusal_text refusal.now))) }
+    ensures err { OnErr result (GainedPrefix (E.written err.old) (E.written err.new)
+        (line_of (refusal_text refusal.now))) }
+    ensures cause { SinkCause (E.faults err.old) (E.faults err.new) result }
+{
+    match refusal {
+        Refusal::Usage => put_all(
+            err,
+            b"usage: xpcall compile FILE... | dump XPT | call CONV XPT SCRIPT | big N\n",
+        ),
+        Refusal::OfFile { name, fault } => put_fault(alloc, name, *fault, err),
+        Refusal::OfFiles { code } => put_code(alloc, *code, err),
+    }
+}
+
+/// Puts what is said of files that have the fault of this code together, a line.
+fn put_code<E: Sink>(alloc: Global, code: u8, err: &mut E) -> Result<(), SinkError>
+    ensures ok { OnOk result (Gained (E.written err.old) (E.written err.new)
+        (line_of (code_text code))) }
+    ensures err { OnErr result (GainedPrefix (E.written err.old) (E.written err.new)
+        (line_of (code_text code))) }
+    ensures cause { SinkCause (E.faults err.old) (E.faults err.new) result }
+{
+    let number = dec_text(alloc, i128::from(code))?;
+    put_framed(alloc, b"fault ", &number, b"\n", err)
 }
 
 /// Puts what is said of the file `name` that has this fault, a line.
@@ -48,8 +77,10 @@ fn put_fault<E: Sink>(
     fault: FileFault,
     err: &mut E,
 ) -> Result<(), SinkError>
-    ensures ok { OnOk result (Gained (E.written err.old) (E.written err.new) (line_of (fault_text name.now fault))) }
-    ensures err { OnErr result (GainedPrefix (E.written err.old) (E.written err.new) (line_of (fault_text name.now fault))) }
+    ensures ok { OnOk result (Gained (E.written err.old) (E.written err.new)
+        (line_of (fault_text name.now fault))) }
+    ensures err { OnErr result (GainedPrefix (E.written err.old) (E.written err.new)
+        (line_of (fault_text name.now fault))) }
     ensures cause { SinkCause (E.faults err.old) (E.faults err.new) result }
 {
     match fault {
@@ -70,8 +101,10 @@ fn put_framed<E: Sink>(
     behind: &[u8],
     err: &mut E,
 ) -> Result<(), SinkError>
-    ensures ok { OnOk result (Gained (E.written err.old) (E.written err.new) (before.now ++ name.now ++ behind.now)) }
-    ensures err { OnErr result (GainedPrefix (E.written err.old) (E.written err.new) (before.now ++ name.now ++ behind.now)) }
+    ensures ok { OnOk result (Gained (E.written err.old) (E.written err.new)
+        (before.now ++ name.now ++ behind.now)) }
+    ensures err { OnErr result (GainedPrefix (E.written err.old) (E.written err.new)
+        (before.now ++ name.now ++ behind.now)) }
     ensures cause { SinkCause (E.faults err.old) (E.faults err.new) result }
 {
     let mut text = Bytes::copy(alloc, before)?;
@@ -88,8 +121,10 @@ fn put_numbered<E: Sink>(
     behind: &[u8],
     err: &mut E,
 ) -> Result<(), SinkError>
-    ensures ok { OnOk result (Gained (E.written err.old) (E.written err.new) (at_line name.now line behind.now)) }
-    ensures err { OnErr result (GainedPrefix (E.written err.old) (E.written err.new) (at_line name.now line behind.now)) }
+    ensures ok { OnOk result (Gained (E.written err.old) (E.written err.new)
+        (at_line name.now line behind.now)) }
+    ensures err { OnErr result (GainedPrefix (E.written err.old) (E.written err.new)
+        (at_line name.now line behind.now)) }
     ensures cause { SinkCause (E.faults err.old) (E.faults err.new) result }
 {
     let mut text = Bytes::copy(alloc, name.as_slice())?;

@@ -7,7 +7,7 @@ use std::test::Fail;
 const FILES: [(&str, &[u8]); 3] = [("a.idl", THIN), ("a.xpt", &TYPELIB), ("s.txt", CALL_OF_ONE)];
 
 /// The words of a run, its failing calls, the status, the output, and the error output.
-const RUNS: [(&[&str], Failing, u8, &[u8], &[u8]); 8] = [
+const RUNS: [(&[&str], Failing, u8, &[u8], &[u8]); 9] = [
     (COMPILE, [0, 0, 0], 0, &TYPELIB, b""),
     (COMPILE, [1, 0, 0], 3, b"", b"cannot read a.idl\n"),
     (COMPILE, [0, 3, 0], 4, b"XP", b"cannot write\n"),
@@ -16,6 +16,7 @@ const RUNS: [(&[&str], Failing, u8, &[u8], &[u8]); 8] = [
     (CALL, [1, 0, 0], 3, b"", b"cannot read a.xpt\n"),
     (CALL, [2, 0, 0], 3, b"", b"cannot read s.txt\n"),
     (CALL, [0, 3, 0], 4, b"> ", b"cannot write\n"),
+    (&["compile"], [0, 1, 3], 4, b"", b"us"),
 ];
 
 #[test]

@@ -1,14 +1,6 @@
 -- The text of each failure is what its arm writes, by computation.
-use Rattle.xpcall_run.specs.FaultText.{failure_text}
+use Rattle.xpcall_run.specs.FailureText.{failure_text}
 use Rattle.xpcall_run.proofs.reports.put_failure.Goals as goal
-
-pub returns-in-Usage-clause-ok : goal.returns-in-Usage-clause-ok
-unfolding failure_text
-returns-in-Usage-clause-ok g c = rw c.in-Usage.is c.put_all.ensures.ok
-
-pub returns-in-Usage-clause-err : goal.returns-in-Usage-clause-err
-unfolding failure_text
-returns-in-Usage-clause-err g c = rw c.in-Usage.is c.put_all.ensures.err
 
 pub returns-in-CannotRead-clause-ok : goal.returns-in-CannotRead-clause-ok
 unfolding failure_text
@@ -20,11 +12,11 @@ returns-in-CannotRead-clause-err g c = rw c.in-CannotRead.is c.put_framed.ensure
 
 pub returns-in-CannotWrite-clause-ok : goal.returns-in-CannotWrite-clause-ok
 unfolding failure_text
-returns-in-CannotWrite-clause-ok g c = rw c.in-CannotWrite.is c.put_all-in-CannotWrite.ensures.ok
+returns-in-CannotWrite-clause-ok g c = rw c.in-CannotWrite.is c.put_all.ensures.ok
 
 pub returns-in-CannotWrite-clause-err : goal.returns-in-CannotWrite-clause-err
 unfolding failure_text
-returns-in-CannotWrite-clause-err g c = rw c.in-CannotWrite.is c.put_all-in-CannotWrite.ensures.err
+returns-in-CannotWrite-clause-err g c = rw c.in-CannotWrite.is c.put_all.ensures.err
 
 pub returns-in-OutOfMemory-clause-ok : goal.returns-in-OutOfMemory-clause-ok
 unfolding failure_text

@@ -1,30 +1,34 @@
 -- Each clause follows from how the run ends.
-use Rattle.xpcall_run.proofs.RunLaws.{run_complete, run_cut_short, run_denies, run_done, run_gives, run_reported, run_status, run_unwritten, run_usage}
+use Rattle.xpcall_run.proofs.CommandLaws.{known_settled}
+use Rattle.xpcall_run.specs.Commands.{asked, work_of}
+use Rattle.xpcall_run.specs.Sides.{reads_of, side_of}
+use Rattle.xpcall_run.proofs.RunLaws.{run_complete, run_cut_short, run_denies, run_done, run_gives, run_status}
 use Rattle.xpcall_run.proofs.running.run.Goals as goal
 
 pub returns-clause-gives : goal.returns-clause-gives
-returns-clause-gives g c = run_gives _ _ _ _ _ _ _ _ _ _ c.work_and_report.ensures.ends
+returns-clause-gives g c = λ text known comes.
+    run_gives _ _ _ _ _ text c.work_and_report.ensures.ends (known_settled _ _ known) comes
 
 pub returns-clause-denies : goal.returns-clause-denies
-returns-clause-denies g c = run_denies _ _ _ _ _ _ _ _ _ _ c.work_and_report.ensures.ends
-
-pub returns-clause-usage : goal.returns-clause-usage
-returns-clause-usage g c = run_usage _ _ _ _ _ _ _ _ _ _ c.work_and_report.ensures.ends
+returns-clause-denies g c = λ refusal known comes.
+    run_denies _ _ _ _ _ refusal c.work_and_report.ensures.ends (known_settled _ _ known) comes
 
 pub returns-clause-statuses : goal.returns-clause-statuses
-returns-clause-statuses g c = run_status _ _ _ _ _ _ _ _ _ _ c.work_and_report.ensures.ends
-
-pub returns-clause-done : goal.returns-clause-done
-returns-clause-done g c = run_done _ _ _ _ _ _ _ _ _ _ c.work_and_report.ensures.ends
-
-pub returns-clause-reported : goal.returns-clause-reported
-returns-clause-reported g c = run_reported _ _ _ _ _ _ _ _ _ _ c.work_and_report.ensures.ends
-
-pub returns-clause-unwritten : goal.returns-clause-unwritten
-returns-clause-unwritten g c = run_unwritten _ _ _ _ _ _ _ _ _ _ c.work_and_report.ensures.ends
+returns-clause-statuses g c = run_status _ _ _ _ _ c.work_and_report.ensures.ends
 
 pub returns-clause-cut_short : goal.returns-clause-cut_short
-returns-clause-cut_short g c = run_cut_short _ _ _ _ _ _ _ _ _ _ c.work_and_report.ensures.ends
+returns-clause-cut_short g c = run_cut_short _ _ _ _ _ c.work_and_report.ensures.ends
 
 pub returns-clause-complete : goal.returns-clause-complete
-returns-clause-complete g c = run_complete _ _ _ _ _ _ _ _ _ _ c.work_and_report.ensures.ends
+returns-clause-complete g c = λ text known comes.
+    run_complete _ _ _ _ _ text c.work_and_report.ensures.ends (known_settled _ _ known) comes
+
+pub returns-clause-done : goal.returns-clause-done
+returns-clause-done g c =
+    run_done
+    (work_of (asked c.args.words.now))
+    (reads_of g.S.Source.files g.S.Source.faults c.args.files.now c.work_and_report.new.files)
+    (side_of g.O.Sink.written g.O.Sink.faults c.args.out.now c.work_and_report.new.out)
+    (side_of g.E.Sink.written g.E.Sink.faults c.args.err.now c.work_and_report.new.err)
+    c.work_and_report.result
+    c.work_and_report.ensures.ends

@@ -5,8 +5,12 @@ use Rattle.xp_base.specs.declared.run_faults.RunFault.{RunFault}
 use Rattle.xp_base.specs.declared.run_faults.RunFault.TheVariants as run
 use Rattle.xpcall_run.specs.declared.failures.FileFault.{FileFault}
 use Rattle.xpcall_run.specs.declared.failures.FileFault.TheVariants.{Missing, TooLong, Token, Syntax, Form, Typelib, Script}
+use Rattle.xpcall_run.specs.declared.failures.Refusal.{Refusal}
+use Rattle.xpcall_run.specs.declared.failures.Refusal.TheVariants.{Usage, OfFile, OfFiles}
 use Rattle.xpcall_run.specs.declared.failures.Failure.{Failure}
-use Rattle.xpcall_run.specs.declared.failures.Failure.TheVariants.{Usage, CannotRead, CannotWrite, OutOfMemory, Refused}
+use Rattle.xpcall_run.specs.declared.failures.Failure.TheVariants.{CannotRead, CannotWrite, OutOfMemory, Refused}
+
+-- ---- the statuses
 
 abbrev pub fault_status : FileFault → ℕ
 fault_status Missing = 6
@@ -17,12 +21,18 @@ fault_status Form = 10
 fault_status Typelib = 11
 fault_status (Script line) = 12
 
+abbrev pub refusal_status : Refusal → ℕ
+refusal_status Usage = 2
+refusal_status (OfFile name fault) = fault_status fault
+refusal_status (OfFiles code) = 10
+
 abbrev pub status_of : Failure → ℕ
-status_of Usage = 2
 status_of (CannotRead name) = 3
 status_of CannotWrite = 4
 status_of OutOfMemory = 5
-status_of (Refused name fault) = fault_status fault
+status_of (Refused refusal) = refusal_status refusal
+
+-- ---- the texts
 
 -- a text and its line feed
 abbrev pub line_of : List ℕ → List ℕ
@@ -45,13 +55,21 @@ fault_text name Form = name ++ codes ": form"
 fault_text name Typelib = name ++ codes ": form"
 fault_text name (Script line) = at_line name line (codes ": script")
 
+-- what is said of files that have the fault of this code together
+abbrev pub code_text : (code : ℕ) → List ℕ
+code_text code = codes "fault " ++ decimal_text (pos code)
+
+abbrev pub refusal_text : Refusal → List ℕ
+refusal_text Usage = usage
+refusal_text (OfFile name fault) = fault_text name fault
+refusal_text (OfFiles code) = code_text code
+
 -- the text of a failure, a line
 unfoldable pub failure_text : Failure → List ℕ
-failure_text Usage = line_of usage
 failure_text (CannotRead name) = line_of (codes "cannot read " ++ name)
 failure_text CannotWrite = line_of (codes "cannot write")
 failure_text OutOfMemory = line_of (codes "out of memory")
-failure_text (Refused name fault) = line_of (fault_text name fault)
+failure_text (Refused refusal) = line_of (refusal_text refusal)
 
 -- what a run fails by whose output is cut short by this
 abbrev pub output_failure : RunFault → Failure
