@@ -17,3 +17,5 @@ mod memory;
 mod patterns;
 #[cfg(test)]
 mod places;
+#[cfg(test)]
+mod stubs;
