@@ -1,10 +1,13 @@
 //! Tests of the machine over its public calls: where each convention passes arguments, and what
-//! stands there; blocks of raw memory, the machine's memory and cells, and its frame.
+//! stands there; blocks of raw memory, the machine's memory and cells, its frame, and
+//! benches that look at it.
 //!
 //! Each is a table and one loop. The expected values are those of the standards, or were worked out
 //! by hand.
 #![tactic(auto)]
 
+#[cfg(test)]
+mod benches;
 #[cfg(test)]
 mod blocks;
 #[cfg(test)]

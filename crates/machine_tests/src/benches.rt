@@ -1,0 +1,97 @@
+use call_model::Conv;
+use machine_bench::{Bench, MemBench, NoBench, Sight};
+use object_memory::{CELLS_AT, Machine, Width};
+use std::alloc::Global;
+use std::test::Fail;
+
+/// What a sight has to show. Of vtable and heap, their length and their last bytes.
+#[derive(Drop)]
+struct Shown<'a> {
+    name: &'a str,
+    gprs: &'a [u64],
+    fprs: &'a [u64],
+    stack: &'a [u8],
+    cells: &'a [u64],
+    heap_len: usize,
+    heap_end: &'a [u8],
+}
+
+/// A machine before anything was done to it, and as `busy` leaves it.
+const SHOWN: [Shown<'static>; 2] = [
+    Shown {
+        name: "a new machine",
+        gprs: &[0; 8],
+        fprs: &[0; 8],
+        stack: &[],
+        cells: &[],
+        heap_len: 0x7d0,
+        // (the entry of slot 249 is 0x1f90)
+        heap_end: &[0x90, 0x1f, 0, 0, 0, 0, 0, 0],
+    },
+    Shown {
+        name: "a busy machine",
+        gprs: &[0, 0, 7, 0, 0, 0, 0, 0],
+        fprs: &[9, 0, 0, 0, 0, 0, 0, 0],
+        stack: &[1, 2, 0, 0],
+        cells: &[0, 0x1122],
+        heap_len: 0x7f0,
+        heap_end: &[
+            5, 6, 0, 0, 0, 0, 0, 0, 0, 0, 0, 0, 0, 0, 0, 0, 0, 0, 1, 0, 0, 0, 0, 0, 0, 0, 0, 0, 0,
+            0, 0, 0,
+        ],
+    },
+];
+
+/// A block, an object, two cells, registers and a stack.
+fn busy(machine: &mut Machine) -> Result<bool, Fail> {
+    let block = machine.add_block(&[5, 6])?;
+    let object = machine.add_object()?;
+    if machine.cells_free() < 2 {
+        return Ok(false);
+    }
+    machine.push_cells(2);
+    let stored = machine.store(CELLS_AT + 8, Width::W2, 0x1122);
+    machine.frame_mut().clear(4);
+    machine.frame_mut().set_gpr(2, 7);
+    machine.frame_mut().set_fpr(0, 9);
+    machine.frame_mut().set_stack(0, Width::W2, 0x0201);
+    Ok(stored && block < object)
+}
+
+/// Whether a sight shows what it has to.
+fn shows(sight: &Sight, shown: &Shown<'_>) -> bool {
+    sight.gprs.as_slice() == shown.gprs
+        && sight.fprs.as_slice() == shown.fprs
+        && sight.stack.as_slice() == shown.stack
+        && sight.cells.as_slice() == shown.cells
+        && sight.heap.as_slice().len() == shown.heap_len
+        && sight.heap.as_slice().ends_with(shown.heap_end)
+}
+
+/// Looks at a machine before and after it is made busy.
+fn look_twice<B: Bench>(alloc: Global, bench: &mut B) -> Result<bool, Fail> {
+    let mut machine = Machine::new(alloc, Conv::SysV64)?;
+    bench.look(&machine)?;
+    let made = busy(&mut machine)?;
+    bench.look(&machine)?;
+    Ok(made)
+}
+
+#[test]
+fn a_bench_remembers_what_it_was_shown(rt: HostRuntime) -> Result<(), Fail> {
+    let mut bench = MemBench::new(rt.alloc());
+    assert!(rt; look_twice(rt.alloc(), &mut bench)?, "made busy");
+    assert!(rt; bench.sights().len() == SHOWN.len(), "two looks");
+    for (k, shown) in SHOWN.iter().enumerate() {
+        let seen = bench.sights().get(k).is_some_and(|sight| shows(sight, shown));
+        assert!(rt; seen, "{}", shown.name);
+    }
+    Ok(())
+}
+
+#[test]
+fn a_bench_may_look_nowhere(rt: HostRuntime) -> Result<(), Fail> {
+    let mut bench = NoBench::new();
+    assert!(rt; look_twice(rt.alloc(), &mut bench)?, "made busy");
+    Ok(())
+}
