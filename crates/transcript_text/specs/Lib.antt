@@ -1,2 +1,4 @@
+pub mod Names
+pub mod Outs
 pub mod Refusals
 pub mod Texts
