@@ -3,10 +3,12 @@
 
 mod frames;
 mod lines;
+mod outs;
 mod refusals;
 mod values;
 
 pub use frames::frame_lines;
 pub use lines::{at_line, echo_line, got_line, refused_line, result_line, slot_line};
+pub use outs::{elements_word, out_line};
 pub use refusals::Refusal;
 pub use values::value_word;
