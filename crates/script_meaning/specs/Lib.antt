@@ -1,0 +1,12 @@
+pub mod Calls
+pub mod Chain
+pub mod Enters
+pub mod Laws
+pub mod Members
+pub mod Outs
+pub mod Refusing
+pub mod Sights
+pub mod State
+pub mod Step
+pub mod Transcript
+pub mod Words
