@@ -1,3 +1,5 @@
+pub mod Acting
+pub mod Found
 pub mod Lawful
 pub mod Looked
 pub mod Planned
@@ -5,3 +7,4 @@ pub mod Plans
 pub mod Replied
 mod Rows
 pub mod Spared
+pub mod Steps
