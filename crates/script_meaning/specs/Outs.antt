@@ -15,7 +15,7 @@ use Rattle.call_model.specs.Tables.{iface_at, iface_with_iid}
 use Rattle.call_model.specs.Types.{is_signed}
 use Rattle.call_model.specs.Values.{canon, own_len}
 use Rattle.invoke_by_index.specs.Arguments.{proto_at}
-use Rattle.transcript_text.specs.Names.{escaped}
+use Rattle.printed_names.specs.Names.{escaped}
 use Rattle.transcript_text.specs.Outs.{elements_word, no_elements_word, no_name_word, out_text}
 use Rattle.transcript_text.specs.Texts.{value_text}
 use Rattle.xp_base.specs.LittleEndian.{number_of}

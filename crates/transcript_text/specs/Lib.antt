@@ -1,4 +1,3 @@
-pub mod Names
 pub mod Outs
 pub mod Refusals
 pub mod Texts
