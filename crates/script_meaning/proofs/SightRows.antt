@@ -9,7 +9,7 @@ use Rattle.xp_base.specs.LittleEndian.{low_bytes}
 use Rattle.script_meaning.specs.Calls.{call_sights}
 use Rattle.script_meaning.specs.Chain.{chain_within}
 use Rattle.script_meaning.specs.Members.{member_named}
-use Rattle.script_meaning.specs.Sights.{Sight}
+use Rattle.machine_bench.specs.declared.sight.Sight.{Sight}
 use Rattle.script_meaning.specs.Step.{call_of, new_object, new_rule, outcome}
 use Rattle.script_meaning.specs.Transcript.{sights}
 use Rattle.call_scripts.specs.Reading as reading

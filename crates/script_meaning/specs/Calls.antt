@@ -27,7 +27,8 @@ use Rattle.script_meaning.specs.Chain.{Stop, answering, chain_of}
 use Rattle.script_meaning.specs.Enters.{entered_frame}
 use Rattle.script_meaning.specs.Members.{Member}
 use Rattle.script_meaning.specs.Outs.{After, number_after, out_line}
-use Rattle.script_meaning.specs.Sights.{Sight, sight}
+use Rattle.machine_bench.specs.declared.sight.Sight.{Sight}
+use Rattle.script_meaning.specs.Sights.{sight}
 use Rattle.script_meaning.specs.State.{Name, State, Variables, learned, number_in}
 use Rattle.script_meaning.specs.Words.{variable_of}
 

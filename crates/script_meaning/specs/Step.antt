@@ -36,7 +36,7 @@ use Rattle.script_meaning.specs.Chain.{chain_of, depth, is_forwarder}
 use Rattle.script_meaning.specs.Enters.{misformed}
 use Rattle.script_meaning.specs.Members.{Member, as_object, member_named, object_of}
 use Rattle.script_meaning.specs.Refusing.{◌then◌, no_fault, refuse, require, there_is}
-use Rattle.script_meaning.specs.Sights.{Sight}
+use Rattle.machine_bench.specs.declared.sight.Sight.{Sight}
 use Rattle.script_meaning.specs.State.{Name, Rule, State, has_room, iface_in, named, next_at, next_number, number_in, object_at, with_block, with_bytes, with_rule}
 use Rattle.script_meaning.specs.Words.{args_of, bytes_of, length_of, number_of_target, number_of_value, rule_of}
 

@@ -4,7 +4,7 @@ use Rattle.std.specs.Prelude.{ℕ, List, [], ◌∷◌, ◌++◌}
 use Rattle.call_model.specs.declared.places.Conv.{Conv}
 use Rattle.call_model.specs.declared.tables.Table.{Table}
 use Rattle.call_scripts.specs.declared.script.Line.{Line}
-use Rattle.script_meaning.specs.Sights.{Sight}
+use Rattle.machine_bench.specs.declared.sight.Sight.{Sight}
 use Rattle.script_meaning.specs.State.{State, empty}
 use Rattle.script_meaning.specs.Step.{Stepped, quiet, step}
 

@@ -1,0 +1,5 @@
+pub mod TableIfaces
+pub mod Elements
+pub mod Lengths
+pub mod Numbers
+pub mod Positions
