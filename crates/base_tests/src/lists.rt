@@ -3,27 +3,42 @@
 use std::test::Fail;
 use xp_base::{Bytes, List};
 
+/// A piece that is added, and the whole then.
+const PIECES: [(&str, &str); 3] = [("", "ab"), ("cd", "abcd"), ("e", "abcde")];
+
 #[test]
 fn bytes_are_added(rt: HostRuntime) -> Result<(), Fail> {
     let mut bytes = Bytes::copy(rt.alloc(), b"ab")?;
-    for (piece, whole) in [("", "ab"), ("cd", "abcd"), ("e", "abcde")] {
+    for (piece, whole) in &PIECES {
         bytes.append(piece.as_bytes())?;
-        assert_eq!(rt; bytes.as_slice(), whole.as_bytes(), "after {piece}");
+        assert!(rt; bytes.as_slice() == whole.as_bytes(), "after {piece}");
     }
     Ok(())
 }
 
+/// Whether a list is these values, as each of its calls tells.
+fn is_these(list: &List<u8>, values: &[u8]) -> bool {
+    for (index, value) in values.iter().enumerate() {
+        if list.get(index).copied() != Some(*value) {
+            return false;
+        }
+    }
+    list.as_slice() == values
+        && list.len() == values.len()
+        && list.is_empty() == values.is_empty()
+        && list.get(values.len()).is_none()
+}
+
+/// A value that is added, and all of them then.
+const VALUES: [(u8, &[u8]); 2] = [(7, &[7]), (9, &[7, 9])];
+
 #[test]
 fn values_are_added(rt: HostRuntime) -> Result<(), Fail> {
     let mut list = List::new(rt.alloc());
-    assert!(rt; list.is_empty());
-    for (value, all) in [(7, [7].as_slice()), (9, [7, 9].as_slice())] {
-        let end = list.len();
-        list.push(value)?;
-        assert!(rt; !list.is_empty(), "after {value}");
-        assert_eq!(rt; list.get(end).copied(), Some(value), "after {value}");
-        assert_eq!(rt; list.get(all.len()).copied(), None, "after {value}");
-        assert_eq!(rt; list.as_slice(), all, "after {value}");
+    assert!(rt; is_these(&list, &[]));
+    for (value, all) in &VALUES {
+        list.push(*value)?;
+        assert!(rt; is_these(&list, all), "after {value}");
     }
     Ok(())
 }

@@ -1,8 +1,11 @@
 //! Files in memory and files of the system.
 
+use std::alloc::Global;
 use std::fs;
 use std::test::Fail;
-use xp_base::{CalmSource, Fetched, FileSource, List, MAX_TYPELIB, MemSource, Source, SourceError};
+use xp_base::{
+    CalmSource, Fetched, FileSource, List, MAX_TYPELIB, MemSource, Memory, Source, SourceError,
+};
 
 /// Whether a fetch found the file `want`, or no file where there is none.
 fn is_file(fetched: &Fetched, want: Option<&str>) -> bool {
@@ -13,56 +16,93 @@ fn is_file(fetched: &Fetched, want: Option<&str>) -> bool {
     }
 }
 
-#[test]
-fn files_in_memory_are_found(rt: HostRuntime) -> Result<(), Fail> {
-    let alloc = rt.alloc();
+/// A source of the file `a`, the first fetch of which fails.
+fn scripted(alloc: Global) -> Result<MemSource, Memory> {
     let mut fails = List::new(alloc);
     fails.push(1)?;
-    let mut scripted = MemSource::new(alloc, fails);
-    scripted.add(b"a", b"old")?;
-    scripted.add(b"a", b"first")?;
-    let mut calm = CalmSource::new(alloc);
-    calm.add(b"a", b"first")?;
-    assert!(rt; matches!(scripted.fetch(alloc, b"a", 5), Err(SourceError::Failed)));
-    for (name, limit, want) in [
-        ("a", 5, Some("first")),
-        ("a", 3, Some("firs")),
-        ("a", 0, Some("f")),
-        ("b", 5, None),
-    ] {
-        let found = scripted.fetch(alloc, name.as_bytes(), limit)?;
-        assert!(rt; is_file(&found, want), "scripted, at {name}, {limit}");
-        let found = calm.fetch(alloc, name.as_bytes(), limit)?;
-        assert!(rt; is_file(&found, want), "calm, at {name}, {limit}");
+    let mut source = MemSource::new(alloc, fails);
+    source.add(b"a", b"old")?;
+    source.add(b"a", b"first")?;
+    Ok(source)
+}
+
+/// A name, a limit, and the bytes that a fetch gives.
+const FETCHES: [(&str, usize, Option<&str>); 4] = [
+    ("a", 5, Some("first")),
+    ("a", 3, Some("firs")),
+    ("a", 0, Some("f")),
+    ("b", 5, None),
+];
+
+/// The first of these fetches that does not find what it is to find, as the number of its row.
+fn first_other<S: Source>(
+    alloc: Global,
+    source: &mut S,
+    fetches: &[(&str, usize, Option<&str>)],
+) -> Result<Option<usize>, SourceError> {
+    for (row, (name, limit, want)) in fetches.iter().enumerate() {
+        let found = source.fetch(alloc, name.as_bytes(), (*limit).min(MAX_TYPELIB))?;
+        if !is_file(&found, *want) {
+            return Ok(Some(row));
+        }
     }
+    Ok(None)
+}
+
+#[test]
+fn files_in_memory_are_found(rt: HostRuntime) -> Result<(), Fail> {
+    let mut source = scripted(rt.alloc())?;
+    let first = source.fetch(rt.alloc(), b"a", 5);
+    assert!(rt; matches!(first, Err(SourceError::Failed)));
+    assert_eq!(rt;
+        first_other(rt.alloc(), &mut source, &FETCHES)?,
+        None,
+        "scripted"
+    );
     Ok(())
 }
 
 #[test]
+fn files_in_calm_memory_are_found(rt: HostRuntime) -> Result<(), Fail> {
+    let mut source = CalmSource::new(rt.alloc());
+    source.add(b"a", b"first")?;
+    assert_eq!(rt;
+        first_other(rt.alloc(), &mut source, &FETCHES)?,
+        None,
+        "calm"
+    );
+    Ok(())
+}
+
+/// The name of the file that is written and fetched.
+const PATH: &str = "base_tests_fetched";
+
+const SYSTEM_FETCHES: [(&str, usize, Option<&str>); 5] = [
+    (PATH, MAX_TYPELIB, Some("first")),
+    (PATH, 5, Some("first")),
+    (PATH, 4, Some("first")),
+    (PATH, 3, Some("firs")),
+    ("base_tests_missing", 5, None),
+];
+
+#[test]
 fn files_of_the_system_are_found(rt: HostRuntime) -> Result<(), Fail> {
-    const PATH: &str = "base_tests_fetched";
     fs::write(&rt, PATH, b"first".as_slice())?;
     let mut source = FileSource::new(&rt);
-    for (name, limit, want) in [
-        (PATH, MAX_TYPELIB, Some("first")),
-        (PATH, 5, Some("first")),
-        (PATH, 4, Some("first")),
-        (PATH, 3, Some("firs")),
-        ("base_tests_missing", 5, None),
-    ] {
-        let found = source.fetch(rt.alloc(), name.as_bytes(), limit)?;
-        assert!(rt; is_file(&found, want), "at {name}, {limit}");
-    }
+    let other = first_other(rt.alloc(), &mut source, &SYSTEM_FETCHES)?;
+    assert_eq!(rt; other, None, "of the system");
     fs::remove_file(&rt, PATH)?;
     Ok(())
 }
 
+/// A name that is not UTF-8, and a folder, twice each.
+const UNREADABLE: [&[u8]; 4] = [b"\xff", b".", b"\xff", b"."];
+
 #[test]
 fn files_of_the_system_fail(rt: HostRuntime) {
     let mut source = FileSource::new(&rt);
-    // A name that is not UTF-8, and a folder, twice each.
-    for name in [b"\xff", b".", b"\xff", b"."] {
-        let failed = matches!(source.fetch(rt.alloc(), name, 5), Err(SourceError::Failed));
+    for name in &UNREADABLE {
+        let failed = matches!(source.fetch(rt.alloc(), *name, 5), Err(SourceError::Failed));
         assert!(rt; failed, "at {name:?}");
     }
 }

@@ -4,6 +4,8 @@ use Rattle.std.specs.Prelude.{codes}
 use Rattle.std.specs.Fmt.{digits}
 use Rattle.call_model.specs.Tables.{lineage_within, slots_within}
 use Rattle.lib_model.specs.declared.contents.Library.{Library}
+use Rattle.lib_model.specs.declared.contents.Iface.{Iface}
+use Rattle.lib_model.specs.declared.contents.Method.{Method}
 use Rattle.lib_model.specs.declared.param_types.Elem.TheVariants as elems
 use Rattle.lib_model.specs.declared.param_types.XType.TheVariants as types
 use Rattle.lib_model.specs.Table.{proto_of, table_of}
@@ -70,3 +72,87 @@ family = record {
 of_family : listing family ≡ codes "typelib 1.2 3\ninterface 1 nsIX 00000000-0000-0000-0000-000000000000 unresolved\ninterface 2 nsIA 00000000-0000-0000-0000-000000000001 parent 0 slots 0 3 flags scriptable\nslot 0 get a - out+retval:int32\nslot 1 set a - in:int32\nslot 2 method AddRef notxpcom,hidden\ninterface 3 nsIB 00000000-0000-0000-0000-000000000002 parent 2 slots 3 6 flags -\nslot 3 method q - in:nsid out+retval:iid_is(0)\nslot 4 method g - in:uint32 out:array(0,0,int16)\nslot 5 method h - in:interface(1)\nconst k int16 -1\nconst a\\20b uint32 7\n"
 unfolding by_index constant_line digits heading iface_line lineage_within listing method_line proto_of slots_within table_of
 of_family = refl
+
+-- The root of all interfaces; and one that has it as its parent, with an attribute that is only read,
+-- one that is also written, and a method.
+abbrev root : Iface
+root = record {
+  name = codes "nsISupports";
+  namespace = None;
+  iid = 0 ∷ 0 ∷ 0 ∷ 0 ∷ 0 ∷ 0 ∷ 0 ∷ 0 ∷ 192 ∷ 0 ∷ 0 ∷ 0 ∷ 0 ∷ 0 ∷ 0 ∷ 70 ∷ [];
+  body = Some (record {
+    parent = 0;
+    methods = (record { name = codes "QueryInterface"; flags = record { bits = 0 }; params = (record { flags = record { bits = 128 }; ty = types.Plain 14 }) ∷ (record { flags = record { bits = 96 }; ty = types.IidIs 0 }) ∷ [] })
+        ∷ (record { name = codes "AddRef"; flags = record { bits = 40 }; params = [] })
+        ∷ (record { name = codes "Release"; flags = record { bits = 40 }; params = [] }) ∷ [];
+    constants = [];
+    flags = record { bits = 128 };
+  });
+}
+
+abbrev attributes : Library
+attributes = record {
+  ifaces = root ∷ (record {
+    name = codes "nsIN";
+    namespace = None;
+    iid = 0 ∷ 0 ∷ 0 ∷ 1 ∷ 0 ∷ 0 ∷ 0 ∷ 0 ∷ 192 ∷ 0 ∷ 0 ∷ 0 ∷ 0 ∷ 0 ∷ 0 ∷ 70 ∷ [];
+    body = Some (record {
+      parent = 1;
+      methods = (record { name = codes "a"; flags = record { bits = 128 }; params = (record { flags = record { bits = 96 }; ty = types.Plain 2 }) ∷ [] })
+          ∷ (record { name = codes "b"; flags = record { bits = 128 }; params = (record { flags = record { bits = 96 }; ty = types.Plain 2 }) ∷ [] })
+          ∷ (record { name = codes "b"; flags = record { bits = 64 }; params = (record { flags = record { bits = 128 }; ty = types.Plain 2 }) ∷ [] })
+          ∷ (record { name = codes "c"; flags = record { bits = 0 }; params = [] }) ∷ [];
+      constants = [];
+      flags = record { bits = 128 };
+    });
+  }) ∷ [];
+}
+
+of_attributes : listing attributes ≡ codes "typelib 1.2 2\ninterface 1 nsISupports 00000000-0000-0000-c000-000000000046 parent 0 slots 0 3 flags scriptable\nslot 0 method QueryInterface - in:nsid out+retval:iid_is(0)\nslot 1 method AddRef notxpcom,hidden\nslot 2 method Release notxpcom,hidden\ninterface 2 nsIN 00000001-0000-0000-c000-000000000046 parent 1 slots 3 7 flags scriptable\nslot 3 get a - out+retval:int32\nslot 4 get b - out+retval:int32\nslot 5 set b - in:int32\nslot 6 method c -\n"
+unfolding by_index constant_line digits heading iface_line lineage_within listing method_line proto_of slots_within table_of
+of_attributes = refl
+
+-- An interface that is not resolved, one with a method that takes it and the next, and one that has
+-- that as its parent and no slots of its own.
+abbrev unresolved : Library
+unresolved = record {
+  ifaces = (record {
+    name = codes "nsIX";
+    namespace = None;
+    iid = 0 ∷ 0 ∷ 0 ∷ 0 ∷ 0 ∷ 0 ∷ 0 ∷ 0 ∷ 0 ∷ 0 ∷ 0 ∷ 0 ∷ 0 ∷ 0 ∷ 0 ∷ 0 ∷ [];
+    body = None;
+  }) ∷ (record {
+    name = codes "nsIB";
+    namespace = None;
+    iid = 0 ∷ 0 ∷ 0 ∷ 1 ∷ 0 ∷ 0 ∷ 0 ∷ 0 ∷ 0 ∷ 0 ∷ 0 ∷ 0 ∷ 0 ∷ 0 ∷ 0 ∷ 0 ∷ [];
+    body = Some (record {
+      parent = 0;
+      methods = (record { name = codes "f"; flags = record { bits = 0 }; params = (record { flags = record { bits = 128 }; ty = types.Iface 3 }) ∷ (record { flags = record { bits = 128 }; ty = types.Iface 1 }) ∷ [] }) ∷ [];
+      constants = [];
+      flags = record { bits = 0 };
+    });
+  }) ∷ (record {
+    name = codes "nsIA";
+    namespace = None;
+    iid = 0 ∷ 0 ∷ 0 ∷ 2 ∷ 0 ∷ 0 ∷ 0 ∷ 0 ∷ 0 ∷ 0 ∷ 0 ∷ 0 ∷ 0 ∷ 0 ∷ 0 ∷ 0 ∷ [];
+    body = Some (record { parent = 2; methods = []; constants = []; flags = record { bits = 0 } });
+  }) ∷ [];
+}
+
+of_unresolved : listing unresolved ≡ codes "typelib 1.2 3\ninterface 1 nsIX 00000000-0000-0000-0000-000000000000 unresolved\ninterface 2 nsIB 00000001-0000-0000-0000-000000000000 parent 0 slots 0 1 flags -\nslot 0 method f - in:interface(3) in:interface(1)\ninterface 3 nsIA 00000002-0000-0000-0000-000000000000 parent 2 slots 1 1 flags -\n"
+unfolding by_index constant_line digits heading iface_line lineage_within listing method_line proto_of slots_within table_of
+of_unresolved = refl
+
+-- A method with an array whose length is another parameter's than its size.
+abbrev part : Method
+part = record {
+  name = codes "part";
+  flags = record { bits = 0 };
+  params = (record { flags = record { bits = 128 }; ty = types.Plain 6 })
+      ∷ (record { flags = record { bits = 64 }; ty = types.Plain 6 })
+      ∷ (record { flags = record { bits = 64 }; ty = types.Array 0 1 (elems.Plain 1) }) ∷ [];
+}
+
+of_part : method_line 3 part ≡ codes "slot 3 method part - in:uint32 out:uint32 out:array(0,1,int16)\n"
+unfolding digits method_line
+of_part = refl
