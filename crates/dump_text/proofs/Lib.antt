@@ -1,4 +1,3 @@
-pub mod EscapeLaws
 pub mod IfaceLaws
 pub mod LineLaws
 pub mod ListingLaws

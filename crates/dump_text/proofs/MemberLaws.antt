@@ -11,7 +11,7 @@ use Rattle.lib_model.specs.declared.param_types.Param.{Param}
 use Rattle.lib_model.specs.Table.{kind_of}
 use Rattle.dump_text.specs.Lines.{spaced}
 use Rattle.dump_text.specs.Listing.{body_words, constant_line, iface_line, method_line}
-use Rattle.dump_text.specs.Names.{escaped}
+use Rattle.printed_names.specs.Names.{escaped}
 use Rattle.dump_text.specs.Words.{const_word, kind_word, method_word, number, param_word}
 use Rattle.dump_text.specs.declared.lines.TheConstants.{LF, SPACE}
 use Rattle.dump_text.proofs.RowLaws.{line_of_four, line_of_five}

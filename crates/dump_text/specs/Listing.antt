@@ -12,7 +12,7 @@ use Rattle.lib_model.specs.declared.contents.Constant.{Constant}
 use Rattle.lib_model.specs.Denotes.{Denotes}
 use Rattle.lib_model.specs.Table.{kind_of, table_of}
 use Rattle.dump_text.specs.Lines.{line}
-use Rattle.dump_text.specs.Names.{escaped}
+use Rattle.printed_names.specs.Names.{escaped}
 use Rattle.dump_text.specs.Words.{const_word, iface_word, kind_word, method_word, number, param_word}
 
 -- a method in a slot, with its parameters

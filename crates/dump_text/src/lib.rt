@@ -6,9 +6,7 @@ mod dumping;
 pub mod laws;
 mod lines;
 mod members;
-mod names;
 mod words;
 mod writes;
 
 pub use dumping::dump;
-pub use names::escaped;

@@ -3,10 +3,10 @@
 ghost use Rattle.std.specs.Prelude.{◌≡◌, [], ◌∷◌, ◌++◌, IfOk, OnOk, map};
 ghost use Rattle.xp_base.specs.Digits.{decimal_text};
 ghost use Rattle.dump_text.specs.Lines as lines;
-ghost use Rattle.dump_text.specs.Names as names;
+ghost use Rattle.printed_names.specs.Names as names;
 ghost use Rattle.dump_text.specs.Words as words;
 
-use crate::names::escaped;
+use printed_names::escaped;
 use std::alloc::Global;
 use std::marker::Model;
 use xp_base::{Bytes, Memory, dec_text};

@@ -1,7 +1,7 @@
 use Rattle.std.proofs.Common.{◌≡◌, ◌∷◌, ◌++◌, [], ap, ◌∙◌, rules, to_z, of_z, w64}
 use Rattle.std.proofs.lemmas.Int.{to_z-of_z}
 use Rattle.xp_base.specs.Digits.{decimal_text}
-use Rattle.dump_text.specs.Names.{escaped}
+use Rattle.printed_names.specs.Names.{escaped}
 use Rattle.dump_text.specs.Words.{const_word}
 use Rattle.dump_text.specs.declared.lines.TheConstants.{LF}
 use Rattle.dump_text.proofs.LineLaws.{made_is}

@@ -1,5 +1,5 @@
 use Rattle.std.proofs.Common.{ap, ◌∙◌}
-use Rattle.dump_text.specs.Names.{escaped}
+use Rattle.printed_names.specs.Names.{escaped}
 use Rattle.dump_text.specs.Words.{kind_word, method_word, number}
 use Rattle.dump_text.proofs.MemberLaws.{added, method_line_begun}
 use Rattle.dump_text.proofs.members.method_line.Goals as goal
