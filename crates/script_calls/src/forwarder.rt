@@ -49,9 +49,9 @@ impl Forwarder {
     ghost use Rattle.script_calls.specs.Forwarders.{can_hand_on, new_forwarder};
     ghost use Rattle.stub_dispatch.specs.Calls.{call_of};
 
-    /// One who hands calls of a method with so many arguments on to the object at `target`, under a
-    /// convention: a bridge's own, or for a proxy the one under which it is called. The one error is
-    /// want of memory.
+    /// One who hands calls of a method with so many arguments on to the object at `target`, under
+    /// a convention: a bridge's own, or for a proxy the one under which it is called. The one error
+    /// is want of memory.
     pub fn new(alloc: Global, conv: Conv, target: u64, positions: u32) -> Result<Forwarder, Memory>
         ensures { IfOk result (λ forwarder. forwarder ≡ new_forwarder conv target positions) }
     {
