@@ -116,7 +116,12 @@ fn put_cells(machine: &mut Machine, cells: &[u64]) {
 }
 
 /// The line of a row; None where the method has not as many arguments as the row has values.
-fn line_of(alloc: Global, lib: &Typelib<'_>, method: &MethodView<'_>, row: &Row<'_>) -> Result<Option<Bytes>, Fail> {
+fn line_of(
+    alloc: Global,
+    lib: &Typelib<'_>,
+    method: &MethodView<'_>,
+    row: &Row<'_>,
+) -> Result<Option<Bytes>, Fail> {
     let mut machine = machine_with_blocks(alloc)?;
     let positions = method.positions();
     if positions > machine.cells_free() {
