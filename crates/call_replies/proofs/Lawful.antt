@@ -74,13 +74,17 @@ keeps-writes m (w ∷ writes) =
     let next = machines.written m w.at w.bytes in keeps-next m next (after_writes next writes) (keeps-written m w.at w.bytes) (keeps-writes next writes)
 
 pub rest-stays : (m k : MachineView) → Keeps m k → SameButBytes m k
-rest-stays m k keeps = λ i. record {
-  conv = keeps.conv_is i;
-  memory = k.memory;
-  blocks = keeps.blocks_are i;
-  objects = keeps.objects_are i;
-  cells = k.cells;
-  frame = keeps.frame_is i;
+rest-stays m k keeps = record {
+  same = λ i. record {
+    conv = keeps.conv_is i;
+    memory = k.memory;
+    blocks = keeps.blocks_are i;
+    objects = keeps.objects_are i;
+    cells = k.cells;
+    frame = keeps.frame_is i;
+  };
+  memory_len = keeps.memory_len;
+  cells_len = keeps.cells_len;
 }
 
 -- ---- lawful writes

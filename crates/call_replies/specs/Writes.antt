@@ -64,10 +64,11 @@ LeavesOthers call rule before after =
     (address : ℕ) → All (MissesTarget before.conv call address) rule
     → machines.number_at after address 1 ≡ machines.number_at before address 1
 
--- vtable, heap and cells may have other bytes; all else is as before
-abbrev pub SameButBytes : (before after : MachineView) → Type 0
-SameButBytes before after =
-    after ≡ record before { memory = after.memory; cells = after.cells }
+-- vtable, heap and cells may have other bytes, as many as before; all else is as before
+pub record SameButBytes (before after : MachineView) : Type 0 where
+  pub same : after ≡ record before { memory = after.memory; cells = after.cells }
+  pub memory_len : length after.memory ≡ length before.memory
+  pub cells_len : length after.cells ≡ length before.cells
 
 -- the machine and the answer are those of the reply
 pub record IsReply (replied : Replied) (after : MachineView) (result : ℕ) : Type 0 where

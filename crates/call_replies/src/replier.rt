@@ -154,9 +154,9 @@ impl Callee for Replier {
     /// With no rule that is 80004001 (hexadecimal), and nothing changes. By a rule, all values are
     /// taken from the machine as it is, and then the targets are written in order. Where a target
     /// does not lie in one data block, but for the cell of a call, it is 80004003, and nothing
-    /// changes. The same comes, rule or not, where the method has another number of arguments, where
-    /// an item does not suit the method, and where a value of a call has no pushed cell. It takes no
-    /// memory.
+    /// changes. The same comes, rule or not, where the method has another number of arguments,
+    /// where an item does not suit the method, and where a value of a call has no pushed cell. It
+    /// takes no memory.
     fn call_method(
         &mut self,
         _object: u32,

@@ -19,7 +19,7 @@ use std::test::Fail;
 /// - `[optional_argc] long pick(in long a, [optional] in long b, [optional] in long c)`,
 /// - both halves of `[implicit_jscontext] attribute long x`, and
 /// - `void say(in AString s, inout short n)`.
-const SAMPLE: [u8; 293] = [
+pub(crate) const SAMPLE: [u8; 293] = [
     0x58, 0x50, 0x43, 0x4f, 0x4d, 0x0a, 0x54, 0x79, 0x70, 0x65, 0x4c, 0x69, 0x62, 0x0d, 0x0a, 0x1a,
     0x01, 0x02, 0x00, 0x02, 0x00, 0x00, 0x01, 0x25, 0x00, 0x00, 0x00, 0x25, 0x00, 0x00, 0x00, 0x5c,
     0x80, 0x00, 0x00, 0x00, 0x00, 0x00, 0x00, 0x00, 0x00, 0x00, 0x00, 0x00, 0xc0, 0x00, 0x00, 0x00,
@@ -41,7 +41,7 @@ const SAMPLE: [u8; 293] = [
     0x00, 0x06, 0x00, 0x00, 0x80,
 ];
 
-const ADD: u16 = 3;
+pub(crate) const ADD: u16 = 3;
 
 const MIX: u16 = 4;
 
@@ -51,15 +51,15 @@ const GET_X: u16 = 6;
 
 const SET_X: u16 = 7;
 
-const SAY: u16 = 8;
+pub(crate) const SAY: u16 = 8;
 
 /// The method in a slot of nsIT.
-fn method_in<'a>(rt: &impl Abort, lib: &Typelib<'a>, slot: u16) -> MethodView<'a> {
+pub(crate) fn method_in<'a>(rt: &impl Abort, lib: &Typelib<'a>, slot: u16) -> MethodView<'a> {
     lib.method_at(2, slot).expect(rt, "no method")
 }
 
 /// Pushes as many cells as a call of a method has.
-fn push_for(rt: &impl Abort, machine: &mut Machine, method: &MethodView<'_>) -> u64
+pub(crate) fn push_for(rt: &impl Abort, machine: &mut Machine, method: &MethodView<'_>) -> u64
     ensures { InCells machine.new result (8 * length (prototype method.now)) }
 {
     let positions = method.positions();
@@ -68,14 +68,14 @@ fn push_for(rt: &impl Abort, machine: &mut Machine, method: &MethodView<'_>) -> 
 }
 
 /// Whether a word of the convention holds a number.
-fn fits_word(conv: Conv, n: u64) -> bool
+pub(crate) fn fits_word(conv: Conv, n: u64) -> bool
     ensures { IsTrue result → FitsWord conv n }
 {
     word_of(conv) == 8 || n <= 0xffff_ffff
 }
 
 /// Whether the cells from `base` on hold these numbers.
-fn has_cells(machine: &Machine, base: u64, cells: &[u64]) -> bool {
+pub(crate) fn has_cells(machine: &Machine, base: u64, cells: &[u64]) -> bool {
     let mut at = base;
     for cell in cells {
         if machine.load(at, Width::W8) != Some(*cell) {
@@ -98,7 +98,7 @@ struct Fill<'a> {
     cells: &'a [u64],
 }
 
-const MINUS_ONE: u64 = 0xffff_ffff_ffff_ffff;
+pub(crate) const MINUS_ONE: u64 = 0xffff_ffff_ffff_ffff;
 
 /// The address that is passed where a method takes the context.
 const CONTEXT: u64 = 0x107d0;
@@ -433,7 +433,7 @@ fn invoke_under(
 }
 
 /// The general registers and the float registers.
-fn registers_of(frame: &Frame) -> ([u64; 8], [u64; 8]) {
+pub(crate) fn registers_of(frame: &Frame) -> ([u64; 8], [u64; 8]) {
     let (mut gprs, mut fprs) = ([0; 8], [0; 8]);
     for i in 0..8 {
         gprs[i as usize] = frame.gpr(i);

@@ -15,10 +15,14 @@ mod calls;
 #[cfg(test)]
 mod frames;
 #[cfg(test)]
+mod handed_on;
+#[cfg(test)]
 mod memory;
 #[cfg(test)]
 mod patterns;
 #[cfg(test)]
 mod places;
+#[cfg(test)]
+mod replies;
 #[cfg(test)]
 mod stubs;

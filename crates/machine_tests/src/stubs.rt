@@ -11,7 +11,7 @@ use stub_dispatch::{Callee, FrameShort, dispatch, recover};
 
 /// An interface nsIE with the methods a, b and c, which take nothing, and in slot 3 a method sh of
 /// one 16-bit number with a sign.
-const SHORTS: [u8; 119] = [
+pub(crate) const SHORTS: [u8; 119] = [
     0x58, 0x50, 0x43, 0x4f, 0x4d, 0x0a, 0x54, 0x79, 0x70, 0x65, 0x4c, 0x69, 0x62, 0x0d, 0x0a, 0x1a,
     0x01, 0x02, 0x00, 0x01, 0x00, 0x00, 0x00, 0x77, 0x00, 0x00, 0x00, 0x25, 0x00, 0x00, 0x00, 0x40,
     0x80, 0x00, 0x00, 0x00, 0x00, 0x00, 0x00, 0x01, 0x00, 0x02, 0x00, 0x03, 0x04, 0x05, 0x06, 0x07,
@@ -37,7 +37,7 @@ const BEFORE: u64 = 0x5555;
 
 /// Gives a frame these general registers and this stack, and zeros elsewhere. A stack of more than
 /// 64 bytes is taken as 64.
-fn fill(frame: &mut Frame, gprs: &[u64; 8], stack: &[u8]) {
+pub(crate) fn fill(frame: &mut Frame, gprs: &[u64; 8], stack: &[u8]) {
     let stack = &stack[..stack.len().min(64)];
     frame.clear(stack.len() as u32);
     frame.set_stack_bytes(0, stack);
@@ -176,11 +176,11 @@ impl Callee for Recorder {
     }
 }
 
-/// Hands a call of sysv64 over to a recorder. None where the frame calls no object.
-fn dispatch_here(
+/// Hands a call of sysv64 over to a callee. None where the frame calls no object.
+pub(crate) fn dispatch_here<K: Callee>(
     machine: &mut Machine,
     method: &MethodView<'_>,
-    recorder: &mut Recorder,
+    callee: &mut K,
 ) -> Option<Result<u32, FrameShort>> {
     if machine.word() != 8 {
         return None;
@@ -188,7 +188,7 @@ fn dispatch_here(
     let this = machine.frame().own(Loc::Gpr(0), 8);
     machine.object_at(this)?;
     let entry = machine.slot_entry(this, method.slot())?;
-    Some(dispatch::<sysv_x86_64::Walk, Recorder>(machine, entry, method, recorder))
+    Some(dispatch::<sysv_x86_64::Walk, K>(machine, entry, method, callee))
 }
 
 #[test]
