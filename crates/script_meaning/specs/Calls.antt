@@ -1,5 +1,5 @@
--- A call that is not refused, or an enter: its frames, the values that are received, the reply, what
--- comes out, and what is written and shown of it. All but the frames of the first object depends on
+-- A call that is not refused, or an enter: its frames, the values that are received, the reply,
+-- what comes out, and what is written and shown of it. All but the first object's frame depends on
 -- the received values alone.
 use Rattle.std.specs.Prelude.{ℕ, ◌+◌, Bool, true, false, List, [], ◌∷◌, ◌++◌, map, filter, fold, length, drop, take, slice_get, slice_index, codes, option_and_then, Option, if◌then◌else◌}
 use Rattle.std.specs.List.{flat_map, range_with_len}

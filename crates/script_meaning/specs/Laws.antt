@@ -67,8 +67,8 @@ pub record SameOutcome (one other : Stepped) : Type 0 where
   pub text : one.text ≡ other.text
   pub state : one.state ≡ other.state
 
--- two `enter` lines for one object and one member, whose frames conform to the same values, have the
--- same outcome, whatever stands in the free bits and bytes
+-- two `enter` lines for one object and one member, whose frames conform to the same values, have
+-- the same outcome, whatever stands in the free bits and bytes
 abbrev pub EntersAlike : Type 0
 EntersAlike =
     (table : Table) (conv : Conv) (state : State) (name : Name) (member : MemberRef)
