@@ -13,10 +13,11 @@ use Rattle.transcript_text.specs.declared.refusals.Refusal.{Refusal}
 use Rattle.call_replies.specs.Blocks.{Block}
 use Rattle.script_meaning.specs.Chain.{AllHandDown, HandsDown, chain_of, chain_within}
 use Rattle.script_meaning.specs.Enters.{entered_frame, misformed}
+use Rattle.script_meaning.specs.Lawful.{IsLawful}
 use Rattle.script_meaning.specs.Members.{Member, member_named}
 use Rattle.script_meaning.specs.State.{Name, State, named, number_in}
 use Rattle.script_meaning.specs.Step.{Stepped, echo_text, outcome, refused_text, settled, step}
-use Rattle.script_meaning.specs.Transcript.{run_from}
+use Rattle.script_meaning.specs.Transcript.{end, run_from}
 
 -- ---- refused lines
 
@@ -43,6 +44,19 @@ RefusedChangesNothing =
     (table : Table) (conv : Conv) (state : State) (line : Line) (lines : List Line) (e : Refusal)
     → outcome table conv state line.act ≡ Err e
     → IsRefused table conv state line lines e
+
+-- ---- states
+
+-- a line leaves a lawful state lawful
+abbrev pub StepsKeepLawful : Type 0
+StepsKeepLawful =
+    (table : Table) (conv : Conv) (state : State) (line : Line)
+    → IsLawful conv state → IsLawful conv (step table conv state line).state
+
+-- so every state at the end of a script is lawful
+abbrev pub EndsAreLawful : Type 0
+EndsAreLawful =
+    (table : Table) (conv : Conv) (lines : List Line) → IsLawful conv (end table conv lines)
 
 -- ---- enters
 
