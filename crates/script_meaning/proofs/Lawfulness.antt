@@ -266,7 +266,7 @@ zero-fits Aapcs64 = omega arith
 zero-fits Ms64 = omega arith
 zero-fits Aapcs32 = omega arith
 
-empty-lawful : (conv : Conv) → IsLawful conv empty
+pub empty-lawful : (conv : Conv) → IsLawful conv empty
 empty-lawful conv = record {
   blocks = record {
     placed = tt;
