@@ -114,7 +114,7 @@ module _ (conv : Conv) (state : State) (lawful : IsLawful conv state) where
     context = lawful.context;
   }
 
-  data-keeps : (name : Name) (fill : Fill) → Keeps (new_data conv state name fill)
+  pub data-keeps : (name : Name) (fill : Fill) → Keeps (new_data conv state name fill)
   unfolding new_data
   data-keeps name fill =
       if_then _ (refuse (is_some (named state name)) refusal.Taken) _ (λ _ free.
@@ -122,7 +122,7 @@ module _ (conv : Conv) (state : State) (lawful : IsLawful conv state) where
       with-block name (Data (bytes_of fill)) (space_for (length_of fill))
       (required _ refusal.Heap v room) (ap space_for (fill_length fill)) tt tt))
 
-  object-keeps : (table : Table) (name iface : Name) → Keeps (new_object table conv state name iface)
+  pub object-keeps : (table : Table) (name iface : Name) → Keeps (new_object table conv state name iface)
   unfolding new_object
   object-keeps table name iface =
       if_then _ (refuse (is_some (named state name)) refusal.Taken) _ (λ _ free.
@@ -222,7 +222,7 @@ module _ (conv : Conv) (state : State) (lawful : IsLawful conv state) where
     context = lawful.context;
   }
 
-  outcome-keeps : (table : Table) (act : Act) → Keeps (outcome table conv state act)
+  pub outcome-keeps : (table : Table) (act : Act) → Keeps (outcome table conv state act)
   unfolding outcome
   outcome-keeps table (acts.Block name fill) = data-keeps name fill
   outcome-keeps table (acts.Object name iface) = object-keeps table name iface

@@ -1,7 +1,9 @@
 -- What a stage stands for: a state of the script.
-use Rattle.std.specs.Prelude.{◌≡◌, ℕ, List, [], length, option_map, Option, Result, Ok, Err}
+use Rattle.std.specs.Prelude.{◌≡◌, ℕ, List, [], ◌++◌, length, codes, option_map, Option, Result, Ok, Err}
 use Rattle.std.specs.Str.{bytes_eq}
 use Rattle.indexmap.specs.IndexMap.{get_by}
+use Rattle.xp_base.specs.Digits.{hex_digits}
+use Rattle.transcript_text.specs.Texts.{ended}
 use Rattle.transcript_text.specs.declared.refusals.Refusal.{Refusal}
 use Rattle.call_replies.specs.Blocks.{Block, Held, Data, Object, Forwarder, HoldsBlocks}
 use Rattle.script_meaning.specs.Lawful.{IsLawful}
@@ -46,13 +48,29 @@ pub record Stands (stage : Stage) (state : State) : Type 0 where
   pub variables : known stage.variables ≡ state.variables
   pub context : stage.context ≡ state.context
 
--- what was done is what is asked for, and the stage stands for the state that this leaves. A
--- refusal is the one that is asked for, and the stage is as it was
-abbrev pub Does : {A : Type 0} → (asked : State → Result Stepped Refusal)
+-- what a line asks for was done, it tells this, and the stage stands for the state that it leaves
+pub record IsDone {A : Type 0} (Tells : A → List ℕ → Type 0) (asked : Result Stepped Refusal)
+    (new : Stage) (value : A) : Type 0 where
+  pub stepped : Stepped
+  pub is : asked ≡ Ok stepped
+  pub stands : Stands new stepped.state
+  pub tells : Tells value stepped.text
+  pub quiet : stepped.sights ≡ []
+
+-- a refusal is the one that is asked for, and the stage is as it was
+abbrev pub Does : {A : Type 0} → (Tells : A → List ℕ → Type 0)
+    → (asked : State → Result Stepped Refusal)
     → (old new : Stage) → Result A StepError → Type 0
-Does asked old new (Ok v) =
-    (state : State) → Stands old state
-    → (stepped : Stepped) × (asked state ≡ Ok stepped) × Stands new stepped.state
-Does asked old new (Err (Refused e)) =
+Does Tells asked old new (Ok value) =
+    (state : State) → Stands old state → IsDone Tells (asked state) new value
+Does Tells asked old new (Err (Refused e)) =
     (new ≡ old) × ((state : State) → Stands old state → asked state ≡ Err e)
-Does asked old new (Err Memory) = Unit {0}
+Does Tells asked old new (Err Memory) = Unit {0}
+
+-- an address is told as that of a new block
+abbrev pub TellsAddress : ℕ → List ℕ → Type 0
+TellsAddress address text = text ≡ ended (codes "at " ++ hex_digits address)
+
+-- that it was done is told
+abbrev pub TellsDone : Unit {0} → List ℕ → Type 0
+TellsDone value text = text ≡ ended (codes "ok")

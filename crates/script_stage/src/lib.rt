@@ -1,6 +1,7 @@
 //! The stage of a script: the machine that its calls are made on, and what its names stand for.
 #![tactic(auto)]
 
+mod data;
 mod errors;
 mod names;
 mod placed;

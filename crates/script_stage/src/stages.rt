@@ -2,17 +2,18 @@
 
 ghost use Rattle.std.specs.Prelude.{◌≡◌, IfOk, option_map, pos};
 ghost use Rattle.call_model.specs.declared.places.Conv as conventions;
+ghost use Rattle.call_scripts.specs.declared.script.Fill.TheVariants.{Given};
 ghost use Rattle.script_meaning.specs.State.{State, empty};
-ghost use Rattle.script_meaning.specs.Step.{new_context};
+ghost use Rattle.script_meaning.specs.Step.{new_data};
 ghost use Rattle.script_meaning.specs.Words as words;
-ghost use Rattle.script_stage.specs.Standing.{Does, Stands, noted_as};
+ghost use Rattle.script_stage.specs.Standing.{Does, Stands, TellsAddress, noted_as};
 
 use crate::errors::StepError;
 use crate::names::Names;
-use crate::placed::Placed;
+use crate::placed::{Kind, Placed};
 use call_model::{Conv, word_of};
 use call_scripts::{Target, ValueWord};
-use object_memory::Machine;
+use object_memory::{HeapError, Machine};
 use std::alloc::Global;
 use transcript_text::Refusal;
 use xp_base::Memory;
@@ -82,5 +83,30 @@ impl<'a> Stage<'a> {
             Target::Block(name) => self.address_of(name.as_slice()),
             Target::Variable(name) => self.variables.find(name.as_slice()),
         }
+    }
+
+    /// Makes a block with these bytes, and gives its address. It is refused where the name is
+    /// taken, or the heap has no room.
+    pub fn add_bytes(&mut self, name: &'a [u8], bytes: &[u8]) -> Result<u64, StepError>
+        ensures { Does
+            TellsAddress
+            (λ state. new_data self.old.machine.conv state name.now (Given bytes.now))
+            self.old
+            self.new
+            result }
+    {
+        if self.named(name).is_some() {
+            return Err(StepError::Refused(Refusal::Taken));
+        }
+        let at = match self.machine.add_block(bytes) {
+            Ok(at) => at,
+            Err(HeapError::Full) => return Err(StepError::Refused(Refusal::Heap)),
+            Err(HeapError::Memory) => return Err(StepError::Memory),
+        };
+        let kind = Kind::Data {
+            length: bytes.len() as u64,
+        };
+        self.blocks.put(name, Placed { at, kind })?;
+        Ok(at)
     }
 }
