@@ -179,11 +179,17 @@ frames state conv call values =
 abbrev pub last_frame : FrameView → List FrameView → FrameView
 last_frame first frames = fold (λ f g. g) first frames
 
--- one for each frame on the way, before its object is entered, and one after the reply
+-- what is shown before an object is entered with a frame, and after the reply
+abbrev pub sight_before : State → Conv → Call → FrameView → Sight
+sight_before state conv call frame = sight conv (memory_before state call) frame
+
+abbrev pub sight_after : State → Conv → Call → (values : List ℕ) → FrameView → Sight
+sight_after state conv call values frame =
+    sight conv (reply_to state conv call values).memory frame
+
+-- one sight for each frame on the way, and one more of the last
 unfoldable pub call_sights : State → Conv → Call → (values : List ℕ) → List Sight
 call_sights state conv call values =
-    map (sight conv (memory_before state call)) (frames state conv call values)
-    ++ sight
-    conv
-    (reply_to state conv call values).memory
-    (last_frame call.frame (frames state conv call values)) ∷ []
+    map (sight_before state conv call) (frames state conv call values)
+    ++ sight_after state conv call values (last_frame call.frame (frames state conv call values))
+    ∷ []
