@@ -70,7 +70,3 @@ Does Tells asked old new (Err Memory) = Unit {0}
 -- an address is told as that of a new block
 abbrev pub TellsAddress : ℕ → List ℕ → Type 0
 TellsAddress address text = text ≡ ended (codes "at " ++ hex_digits address)
-
--- that it was done is told
-abbrev pub TellsDone : Unit {0} → List ℕ → Type 0
-TellsDone value text = text ≡ ended (codes "ok")
