@@ -83,7 +83,10 @@ fn a_bench_remembers_what_it_was_shown(rt: HostRuntime) -> Result<(), Fail> {
     assert!(rt; look_twice(rt.alloc(), &mut bench)?, "made busy");
     assert!(rt; bench.sights().len() == SHOWN.len(), "two looks");
     for (k, shown) in SHOWN.iter().enumerate() {
-        let seen = bench.sights().get(k).is_some_and(|sight| shows(sight, shown));
+        let seen = bench
+            .sights()
+            .get(k)
+            .is_some_and(|sight| shows(sight, shown));
         assert!(rt; seen, "{}", shown.name);
     }
     Ok(())

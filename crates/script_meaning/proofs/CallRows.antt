@@ -1,4 +1,5 @@
--- The transcripts of calls, worked out by hand from the rules of the conventions and of scripts.
+-- The transcripts of calls,
+-- worked out by hand from the rules of the conventions and of scripts.
 use Rattle.std.proofs.Common.{[], ◌∷◌, refl}
 use Rattle.std.specs.Prelude.{codes}
 use Rattle.call_model.specs.declared.places.Conv.TheVariants.{SysV64, I386, Aapcs64, Ms64, Aapcs32}
@@ -20,7 +21,9 @@ use Rattle.script_meaning.proofs.Says.{Says}
 use Rattle.script_meaning.proofs.RowTables.{adding, contexts, mixed, optionals, padded, seven}
 
 -- a reply with a sum
-a_sum : Says adding SysV64
+abbrev a_sum : Type 0
+a_sum =
+    Says adding SysV64
     (codes "object o nsIT"
     ∷ codes "reply o nsIT.add a2=$a0+$a1"
     ∷ codes "call o nsIT.add 2 -1 ->s" ∷ [])
@@ -36,11 +39,11 @@ a_sum : Says adding SysV64
     ∷ codes "got 2 -1 0x40000010"
     ∷ codes "result 00000000"
     ∷ codes "out 2 1" ∷ [])
-unfolding digits decode_pairs by_index lineage_within member_within slots_within numbers frame_text low_bytes call_sights call_text chain_within entered_frame member_named call_of enter_of new_context new_data new_forwarder new_object new_rule outcome poked shown_block shown_variable static reading.after reading.before reading.act_of reading.arg_of reading.bytes_of reading.cut_at reading.decimal_of reading.digits_of reading.fill_of reading.fill_kind_of reading.frame_item_of reading.iid_of reading.item_of reading.line_of reading.member_of reading.method_of reading.name_of reading.number_of reading.out_of reading.set_of reading.sum_of reading.target_of reading.term_of reading.value_of reading.words_line_of reading.conv_of
-a_sum = refl
 
 -- the same where all arguments are on the stack
-a_sum_on_the_stack : Says adding I386
+abbrev a_sum_on_the_stack : Type 0
+a_sum_on_the_stack =
+    Says adding I386
     (codes "object o nsIT"
     ∷ codes "reply o nsIT.add a2=$a0+$a1"
     ∷ codes "call o nsIT.add 2 -1 ->s" ∷ [])
@@ -56,11 +59,11 @@ a_sum_on_the_stack : Says adding I386
     ∷ codes "got 2 -1 0x40000010"
     ∷ codes "result 00000000"
     ∷ codes "out 2 1" ∷ [])
-unfolding digits decode_pairs by_index lineage_within member_within slots_within numbers frame_text low_bytes call_sights call_text chain_within entered_frame member_named call_of enter_of new_context new_data new_forwarder new_object new_rule outcome poked shown_block shown_variable static reading.after reading.before reading.act_of reading.arg_of reading.bytes_of reading.cut_at reading.decimal_of reading.digits_of reading.fill_of reading.fill_kind_of reading.frame_item_of reading.iid_of reading.item_of reading.line_of reading.member_of reading.method_of reading.name_of reading.number_of reading.out_of reading.set_of reading.sum_of reading.target_of reading.term_of reading.value_of reading.words_line_of reading.conv_of
-a_sum_on_the_stack = refl
 
 -- the same with eight general registers
-a_sum_on_arm : Says adding Aapcs64
+abbrev a_sum_on_arm : Type 0
+a_sum_on_arm =
+    Says adding Aapcs64
     (codes "object o nsIT"
     ∷ codes "reply o nsIT.add a2=$a0+$a1"
     ∷ codes "call o nsIT.add 2 -1 ->s" ∷ [])
@@ -76,11 +79,11 @@ a_sum_on_arm : Says adding Aapcs64
     ∷ codes "got 2 -1 0x40000010"
     ∷ codes "result 00000000"
     ∷ codes "out 2 1" ∷ [])
-unfolding digits decode_pairs by_index lineage_within member_within slots_within numbers frame_text low_bytes call_sights call_text chain_within entered_frame member_named call_of enter_of new_context new_data new_forwarder new_object new_rule outcome poked shown_block shown_variable static reading.after reading.before reading.act_of reading.arg_of reading.bytes_of reading.cut_at reading.decimal_of reading.digits_of reading.fill_of reading.fill_kind_of reading.frame_item_of reading.iid_of reading.item_of reading.line_of reading.member_of reading.method_of reading.name_of reading.number_of reading.out_of reading.set_of reading.sum_of reading.target_of reading.term_of reading.value_of reading.words_line_of reading.conv_of
-a_sum_on_arm = refl
 
 -- the same with a home on the stack
-a_sum_by_position : Says adding Ms64
+abbrev a_sum_by_position : Type 0
+a_sum_by_position =
+    Says adding Ms64
     (codes "object o nsIT"
     ∷ codes "reply o nsIT.add a2=$a0+$a1"
     ∷ codes "call o nsIT.add 2 -1 ->s" ∷ [])
@@ -96,11 +99,11 @@ a_sum_by_position : Says adding Ms64
     ∷ codes "got 2 -1 0x40000010"
     ∷ codes "result 00000000"
     ∷ codes "out 2 1" ∷ [])
-unfolding digits decode_pairs by_index lineage_within member_within slots_within numbers frame_text low_bytes call_sights call_text chain_within entered_frame member_named call_of enter_of new_context new_data new_forwarder new_object new_rule outcome poked shown_block shown_variable static reading.after reading.before reading.act_of reading.arg_of reading.bytes_of reading.cut_at reading.decimal_of reading.digits_of reading.fill_of reading.fill_kind_of reading.frame_item_of reading.iid_of reading.item_of reading.line_of reading.member_of reading.method_of reading.name_of reading.number_of reading.out_of reading.set_of reading.sum_of reading.target_of reading.term_of reading.value_of reading.words_line_of reading.conv_of
-a_sum_by_position = refl
 
 -- a result that a rule names, until the next rule
-a_named_result : Says adding SysV64
+abbrev a_named_result : Type 0
+a_named_result =
+    Says adding SysV64
     (codes "object o nsIT"
     ∷ codes "reply o nsIT.add a2=7 result=80004005"
     ∷ codes "call o nsIT.add 1 2 ->s"
@@ -131,11 +134,11 @@ a_named_result : Says adding SysV64
     ∷ codes "got 1 2 0x40000010"
     ∷ codes "result 00000000"
     ∷ codes "out 2 7" ∷ [])
-unfolding digits decode_pairs by_index lineage_within member_within slots_within numbers frame_text low_bytes call_sights call_text chain_within entered_frame member_named call_of enter_of new_context new_data new_forwarder new_object new_rule outcome poked shown_block shown_variable static reading.after reading.before reading.act_of reading.arg_of reading.bytes_of reading.cut_at reading.decimal_of reading.digits_of reading.fill_of reading.fill_kind_of reading.frame_item_of reading.iid_of reading.item_of reading.line_of reading.member_of reading.method_of reading.name_of reading.number_of reading.out_of reading.set_of reading.sum_of reading.target_of reading.term_of reading.value_of reading.words_line_of reading.conv_of
-a_named_result = refl
 
 -- more arguments than registers
-seven_numbers : Says seven SysV64
+abbrev seven_numbers : Type 0
+seven_numbers =
+    Says seven SysV64
     (codes "object o nsI7"
     ∷ codes "call o nsI7.seven 1 2 3 4 5 6 7" ∷ [])
     (codes "> object o nsI7"
@@ -147,11 +150,11 @@ seven_numbers : Says seven SysV64
     ∷ codes "stack 06000000000000000700000000000000"
     ∷ codes "got 1 2 3 4 5 6 7"
     ∷ codes "result 80004001" ∷ [])
-unfolding digits decode_pairs by_index lineage_within member_within slots_within numbers frame_text low_bytes call_sights call_text chain_within entered_frame member_named call_of enter_of new_context new_data new_forwarder new_object new_rule outcome poked shown_block shown_variable static reading.after reading.before reading.act_of reading.arg_of reading.bytes_of reading.cut_at reading.decimal_of reading.digits_of reading.fill_of reading.fill_kind_of reading.frame_item_of reading.iid_of reading.item_of reading.line_of reading.member_of reading.method_of reading.name_of reading.number_of reading.out_of reading.set_of reading.sum_of reading.target_of reading.term_of reading.value_of reading.words_line_of reading.conv_of
-seven_numbers = refl
 
 -- more floats than registers
-floats : Says mixed SysV64
+abbrev floats : Type 0
+floats =
+    Says mixed SysV64
     (codes "object o nsIM"
     ∷ codes "call o nsIM.mix 0x1 0x2 7 0x3 0x4 0x5 0x6 0x7 0x8 0x9" ∷ [])
     (codes "> object o nsIM"
@@ -163,11 +166,11 @@ floats : Says mixed SysV64
     ∷ codes "stack 0900000000000000"
     ∷ codes "got 0x1 0x2 7 0x3 0x4 0x5 0x6 0x7 0x8 0x9"
     ∷ codes "result 80004001" ∷ [])
-unfolding digits decode_pairs by_index lineage_within member_within slots_within numbers frame_text low_bytes call_sights call_text chain_within entered_frame member_named call_of enter_of new_context new_data new_forwarder new_object new_rule outcome poked shown_block shown_variable static reading.after reading.before reading.act_of reading.arg_of reading.bytes_of reading.cut_at reading.decimal_of reading.digits_of reading.fill_of reading.fill_kind_of reading.frame_item_of reading.iid_of reading.item_of reading.line_of reading.member_of reading.method_of reading.name_of reading.number_of reading.out_of reading.set_of reading.sum_of reading.target_of reading.term_of reading.value_of reading.words_line_of reading.conv_of
-floats = refl
 
 -- the same where a position has one register, of either class
-floats_by_position : Says mixed Ms64
+abbrev floats_by_position : Type 0
+floats_by_position =
+    Says mixed Ms64
     (codes "object o nsIM"
     ∷ codes "call o nsIM.mix 0x1 0x2 7 0x3 0x4 0x5 0x6 0x7 0x8 0x9" ∷ [])
     (codes "> object o nsIM"
@@ -179,11 +182,11 @@ floats_by_position : Says mixed Ms64
     ∷ codes "stack 00000000000000000000000000000000000000000000000000000000000000000300000000000000040000000000000005000000000000000600000000000000070000000000000008000000000000000900000000000000"
     ∷ codes "got 0x1 0x2 7 0x3 0x4 0x5 0x6 0x7 0x8 0x9"
     ∷ codes "result 80004001" ∷ [])
-unfolding digits decode_pairs by_index lineage_within member_within slots_within numbers frame_text low_bytes call_sights call_text chain_within entered_frame member_named call_of enter_of new_context new_data new_forwarder new_object new_rule outcome poked shown_block shown_variable static reading.after reading.before reading.act_of reading.arg_of reading.bytes_of reading.cut_at reading.decimal_of reading.digits_of reading.fill_of reading.fill_kind_of reading.frame_item_of reading.iid_of reading.item_of reading.line_of reading.member_of reading.method_of reading.name_of reading.number_of reading.out_of reading.set_of reading.sum_of reading.target_of reading.term_of reading.value_of reading.words_line_of reading.conv_of
-floats_by_position = refl
 
 -- a wide value at an odd word
-unaligned : Says padded I386
+abbrev unaligned : Type 0
+unaligned =
+    Says padded I386
     (codes "object o nsIP"
     ∷ codes "call o nsIP.pad -2 1 255" ∷ [])
     (codes "> object o nsIP"
@@ -195,11 +198,11 @@ unaligned : Says padded I386
     ∷ codes "stack f0030100feffffffffffffff01000000ff000000"
     ∷ codes "got -2 1 255"
     ∷ codes "result 80004001" ∷ [])
-unfolding digits decode_pairs by_index lineage_within member_within slots_within numbers frame_text low_bytes call_sights call_text chain_within entered_frame member_named call_of enter_of new_context new_data new_forwarder new_object new_rule outcome poked shown_block shown_variable static reading.after reading.before reading.act_of reading.arg_of reading.bytes_of reading.cut_at reading.decimal_of reading.digits_of reading.fill_of reading.fill_kind_of reading.frame_item_of reading.iid_of reading.item_of reading.line_of reading.member_of reading.method_of reading.name_of reading.number_of reading.out_of reading.set_of reading.sum_of reading.target_of reading.term_of reading.value_of reading.words_line_of reading.conv_of
-unaligned = refl
 
 -- the same behind an odd word that is left free
-aligned : Says padded Aapcs32
+abbrev aligned : Type 0
+aligned =
+    Says padded Aapcs32
     (codes "object o nsIP"
     ∷ codes "call o nsIP.pad -2 1 255" ∷ [])
     (codes "> object o nsIP"
@@ -211,11 +214,11 @@ aligned : Says padded Aapcs32
     ∷ codes "stack f003010000000000feffffffffffffff01000000ff000000"
     ∷ codes "got -2 1 255"
     ∷ codes "result 80004001" ∷ [])
-unfolding digits decode_pairs by_index lineage_within member_within slots_within numbers frame_text low_bytes call_sights call_text chain_within entered_frame member_named call_of enter_of new_context new_data new_forwarder new_object new_rule outcome poked shown_block shown_variable static reading.after reading.before reading.act_of reading.arg_of reading.bytes_of reading.cut_at reading.decimal_of reading.digits_of reading.fill_of reading.fill_kind_of reading.frame_item_of reading.iid_of reading.item_of reading.line_of reading.member_of reading.method_of reading.name_of reading.number_of reading.out_of reading.set_of reading.sum_of reading.target_of reading.term_of reading.value_of reading.words_line_of reading.conv_of
-aligned = refl
 
 -- an argument that is left out, and the count of those that are given
-optional_arguments : Says optionals SysV64
+abbrev optional_arguments : Type 0
+optional_arguments =
+    Says optionals SysV64
     (codes "object o nsIO"
     ∷ codes "reply o nsIO.pick a4=$a3"
     ∷ codes "call o nsIO.pick 5 6 _ ->r" ∷ [])
@@ -231,11 +234,11 @@ optional_arguments : Says optionals SysV64
     ∷ codes "got 5 6 0 1 0x40000020"
     ∷ codes "result 00000000"
     ∷ codes "out 4 1" ∷ [])
-unfolding digits decode_pairs by_index lineage_within member_within slots_within numbers frame_text low_bytes call_sights call_text chain_within entered_frame member_named call_of enter_of new_context new_data new_forwarder new_object new_rule outcome poked shown_block shown_variable static reading.after reading.before reading.act_of reading.arg_of reading.bytes_of reading.cut_at reading.decimal_of reading.digits_of reading.fill_of reading.fill_kind_of reading.frame_item_of reading.iid_of reading.item_of reading.line_of reading.member_of reading.method_of reading.name_of reading.number_of reading.out_of reading.set_of reading.sum_of reading.target_of reading.term_of reading.value_of reading.words_line_of reading.conv_of
-optional_arguments = refl
 
 -- the address of a context, in a method and in a setter
-a_context : Says contexts SysV64
+abbrev a_context : Type 0
+a_context =
+    Says contexts SysV64
     (codes "data c 00"
     ∷ codes "object o nsIC"
     ∷ codes "context @c"
@@ -265,5 +268,18 @@ a_context : Says contexts SysV64
     ∷ codes "stack -"
     ∷ codes "got 0x107d0 7"
     ∷ codes "result 80004001" ∷ [])
-unfolding digits decode_pairs by_index lineage_within member_within slots_within numbers frame_text low_bytes call_sights call_text chain_within entered_frame member_named call_of enter_of new_context new_data new_forwarder new_object new_rule outcome poked shown_block shown_variable static reading.after reading.before reading.act_of reading.arg_of reading.bytes_of reading.cut_at reading.decimal_of reading.digits_of reading.fill_of reading.fill_kind_of reading.frame_item_of reading.iid_of reading.item_of reading.line_of reading.member_of reading.method_of reading.name_of reading.number_of reading.out_of reading.set_of reading.sum_of reading.target_of reading.term_of reading.value_of reading.words_line_of reading.conv_of
-a_context = refl
+
+-- each follows by computing
+they_say :
+    a_sum × a_sum_on_the_stack × a_sum_on_arm × a_sum_by_position × a_named_result × seven_numbers
+    × floats × floats_by_position × unaligned × aligned × optional_arguments × a_context
+unfolding digits decode_pairs by_index lineage_within member_within slots_within numbers frame_text
+    low_bytes call_sights call_text chain_within entered_frame member_named call_of enter_of
+    new_context new_data new_forwarder new_object new_rule outcome poked shown_block
+    shown_variable static reading.after reading.before reading.act_of reading.arg_of
+    reading.bytes_of reading.cut_at reading.decimal_of reading.digits_of reading.fill_of
+    reading.fill_kind_of reading.frame_item_of reading.iid_of reading.item_of reading.line_of
+    reading.member_of reading.method_of reading.name_of reading.number_of reading.out_of
+    reading.set_of reading.sum_of reading.target_of reading.term_of reading.value_of
+    reading.words_line_of reading.conv_of
+they_say = (refl, refl, refl, refl, refl, refl, refl, refl, refl, refl, refl, refl)

@@ -1,4 +1,5 @@
--- The transcripts of enters, worked out by hand from the rules of the conventions and of scripts.
+-- The transcripts of enters,
+-- worked out by hand from the rules of the conventions and of scripts.
 use Rattle.std.proofs.Common.{[], ◌∷◌, refl}
 use Rattle.std.specs.Prelude.{codes}
 use Rattle.call_model.specs.declared.places.Conv.TheVariants.{SysV64, I386, Ms64, Aapcs32}
@@ -20,7 +21,9 @@ use Rattle.script_meaning.proofs.Says.{Says}
 use Rattle.script_meaning.proofs.RowTables.{booleans, shorts}
 
 -- bits above a value's own, and registers that no argument is in, are free
-free_bits : Says shorts SysV64
+abbrev free_bits : Type 0
+free_bits =
+    Says shorts SysV64
     (codes "object o nsIE"
     ∷ codes "enter o nsIE.sh rsi=deadbeefcafe8001 r9=7 xmm0=5"
     ∷ codes "enter o nsIE.sh rsi=8001" ∷ [])
@@ -34,11 +37,11 @@ free_bits : Says shorts SysV64
     ∷ codes "slot 3 entry 1030"
     ∷ codes "got -32767"
     ∷ codes "result 80004001" ∷ [])
-unfolding digits decode_pairs by_index lineage_within member_within slots_within numbers frame_text low_bytes call_sights call_text chain_within entered_frame member_named call_of enter_of new_context new_data new_forwarder new_object new_rule outcome poked shown_block shown_variable static reading.after reading.before reading.act_of reading.arg_of reading.bytes_of reading.cut_at reading.decimal_of reading.digits_of reading.fill_of reading.fill_kind_of reading.frame_item_of reading.iid_of reading.item_of reading.line_of reading.member_of reading.method_of reading.name_of reading.number_of reading.out_of reading.set_of reading.sum_of reading.target_of reading.term_of reading.value_of reading.words_line_of reading.conv_of
-free_bits = refl
 
 -- a stack that is too short, and one with free bytes
-a_short_stack : Says shorts I386
+abbrev a_short_stack : Type 0
+a_short_stack =
+    Says shorts I386
     (codes "object o nsIE"
     ∷ codes "enter o nsIE.sh stack=018000"
     ∷ codes "enter o nsIE.sh stack=0180aabb" ∷ [])
@@ -50,11 +53,11 @@ a_short_stack : Says shorts I386
     ∷ codes "slot 3 entry 1030"
     ∷ codes "got -32767"
     ∷ codes "result 80004001" ∷ [])
-unfolding digits decode_pairs by_index lineage_within member_within slots_within numbers frame_text low_bytes call_sights call_text chain_within entered_frame member_named call_of enter_of new_context new_data new_forwarder new_object new_rule outcome poked shown_block shown_variable static reading.after reading.before reading.act_of reading.arg_of reading.bytes_of reading.cut_at reading.decimal_of reading.digits_of reading.fill_of reading.fill_kind_of reading.frame_item_of reading.iid_of reading.item_of reading.line_of reading.member_of reading.method_of reading.name_of reading.number_of reading.out_of reading.set_of reading.sum_of reading.target_of reading.term_of reading.value_of reading.words_line_of reading.conv_of
-a_short_stack = refl
 
 -- where the core registers are the first bytes of the stack
-the_core_registers : Says shorts Aapcs32
+abbrev the_core_registers : Type 0
+the_core_registers =
+    Says shorts Aapcs32
     (codes "object o nsIE"
     ∷ codes "enter o nsIE.sh"
     ∷ codes "enter o nsIE.sh stack=0180aabb1122334455667788" ∷ [])
@@ -66,22 +69,22 @@ the_core_registers : Says shorts Aapcs32
     ∷ codes "slot 3 entry 1030"
     ∷ codes "got -32767"
     ∷ codes "result 80004001" ∷ [])
-unfolding digits decode_pairs by_index lineage_within member_within slots_within numbers frame_text low_bytes call_sights call_text chain_within entered_frame member_named call_of enter_of new_context new_data new_forwarder new_object new_rule outcome poked shown_block shown_variable static reading.after reading.before reading.act_of reading.arg_of reading.bytes_of reading.cut_at reading.decimal_of reading.digits_of reading.fill_of reading.fill_kind_of reading.frame_item_of reading.iid_of reading.item_of reading.line_of reading.member_of reading.method_of reading.name_of reading.number_of reading.out_of reading.set_of reading.sum_of reading.target_of reading.term_of reading.value_of reading.words_line_of reading.conv_of
-the_core_registers = refl
 
 -- where there is a home for the registers
-the_home : Says shorts Ms64
+abbrev the_home : Type 0
+the_home =
+    Says shorts Ms64
     (codes "object o nsIE"
     ∷ codes "enter o nsIE.sh" ∷ [])
     (codes "> object o nsIE"
     ∷ codes "at 107d0"
     ∷ codes "> enter o nsIE.sh"
     ∷ codes "refused frame 32 0" ∷ [])
-unfolding digits decode_pairs by_index lineage_within member_within slots_within numbers frame_text low_bytes call_sights call_text chain_within entered_frame member_named call_of enter_of new_context new_data new_forwarder new_object new_rule outcome poked shown_block shown_variable static reading.after reading.before reading.act_of reading.arg_of reading.bytes_of reading.cut_at reading.decimal_of reading.digits_of reading.fill_of reading.fill_kind_of reading.frame_item_of reading.iid_of reading.item_of reading.line_of reading.member_of reading.method_of reading.name_of reading.number_of reading.out_of reading.set_of reading.sum_of reading.target_of reading.term_of reading.value_of reading.words_line_of reading.conv_of
-the_home = refl
 
 -- a reply writes the own bytes of a value where they lie in a block, and nothing elsewhere
-one_byte : Says booleans SysV64
+abbrev one_byte : Type 0
+one_byte =
+    Says booleans SysV64
     (codes "data d 1122334455667788"
     ∷ codes "object o nsIB"
     ∷ codes "reply o nsIB.b8 a0=1"
@@ -107,5 +110,17 @@ one_byte : Says booleans SysV64
     ∷ codes "result 80004003"
     ∷ codes "> show d"
     ∷ codes "1101334455667788" ∷ [])
-unfolding digits decode_pairs by_index lineage_within member_within slots_within numbers frame_text low_bytes call_sights call_text chain_within entered_frame member_named call_of enter_of new_context new_data new_forwarder new_object new_rule outcome poked shown_block shown_variable static reading.after reading.before reading.act_of reading.arg_of reading.bytes_of reading.cut_at reading.decimal_of reading.digits_of reading.fill_of reading.fill_kind_of reading.frame_item_of reading.iid_of reading.item_of reading.line_of reading.member_of reading.method_of reading.name_of reading.number_of reading.out_of reading.set_of reading.sum_of reading.target_of reading.term_of reading.value_of reading.words_line_of reading.conv_of
-one_byte = refl
+
+-- each follows by computing
+they_say :
+    free_bits × a_short_stack × the_core_registers × the_home × one_byte
+unfolding digits decode_pairs by_index lineage_within member_within slots_within numbers frame_text
+    low_bytes call_sights call_text chain_within entered_frame member_named call_of enter_of
+    new_context new_data new_forwarder new_object new_rule outcome poked shown_block
+    shown_variable static reading.after reading.before reading.act_of reading.arg_of
+    reading.bytes_of reading.cut_at reading.decimal_of reading.digits_of reading.fill_of
+    reading.fill_kind_of reading.frame_item_of reading.iid_of reading.item_of reading.line_of
+    reading.member_of reading.method_of reading.name_of reading.number_of reading.out_of
+    reading.set_of reading.sum_of reading.target_of reading.term_of reading.value_of
+    reading.words_line_of reading.conv_of
+they_say = (refl, refl, refl, refl, refl)

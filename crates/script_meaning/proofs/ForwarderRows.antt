@@ -1,4 +1,5 @@
--- The transcripts of calls through forwarders, worked out by hand from the rules of the conventions and of scripts.
+-- The transcripts of calls through forwarders,
+-- worked out by hand from the rules of the conventions and of scripts.
 use Rattle.std.proofs.Common.{[], ◌∷◌, refl}
 use Rattle.std.specs.Prelude.{codes}
 use Rattle.call_model.specs.declared.places.Conv.TheVariants.{SysV64, I386}
@@ -20,7 +21,9 @@ use Rattle.script_meaning.proofs.Says.{Says}
 use Rattle.script_meaning.proofs.RowTables.{adding, shorts}
 
 -- a call through a proxy
-a_proxy : Says adding SysV64
+abbrev a_proxy : Type 0
+a_proxy =
+    Says adding SysV64
     (codes "object o nsIT"
     ∷ codes "reply o nsIT.add a2=$a0+$a1"
     ∷ codes "proxy p o"
@@ -44,11 +47,11 @@ a_proxy : Says adding SysV64
     ∷ codes "got 2 -1 0x40000010"
     ∷ codes "result 00000000"
     ∷ codes "out 2 1" ∷ [])
-unfolding digits decode_pairs by_index lineage_within member_within slots_within numbers frame_text low_bytes call_sights call_text chain_within entered_frame member_named call_of enter_of new_context new_data new_forwarder new_object new_rule outcome poked shown_block shown_variable static reading.after reading.before reading.act_of reading.arg_of reading.bytes_of reading.cut_at reading.decimal_of reading.digits_of reading.fill_of reading.fill_kind_of reading.frame_item_of reading.iid_of reading.item_of reading.line_of reading.member_of reading.method_of reading.name_of reading.number_of reading.out_of reading.set_of reading.sum_of reading.target_of reading.term_of reading.value_of reading.words_line_of reading.conv_of
-a_proxy = refl
 
 -- an enter that a bridge hands on under a convention of its own, with canonical values
-a_bridge : Says shorts SysV64
+abbrev a_bridge : Type 0
+a_bridge =
+    Says shorts SysV64
     (codes "object o nsIE"
     ∷ codes "bridge q o aapcs64"
     ∷ codes "enter q nsIE.sh rsi=deadbeefcafe8001 r9=7" ∷ [])
@@ -65,22 +68,22 @@ a_bridge : Says shorts SysV64
     ∷ codes "stack -"
     ∷ codes "got -32767"
     ∷ codes "result 80004001" ∷ [])
-unfolding digits decode_pairs by_index lineage_within member_within slots_within numbers frame_text low_bytes call_sights call_text chain_within entered_frame member_named call_of enter_of new_context new_data new_forwarder new_object new_rule outcome poked shown_block shown_variable static reading.after reading.before reading.act_of reading.arg_of reading.bytes_of reading.cut_at reading.decimal_of reading.digits_of reading.fill_of reading.fill_kind_of reading.frame_item_of reading.iid_of reading.item_of reading.line_of reading.member_of reading.method_of reading.name_of reading.number_of reading.out_of reading.set_of reading.sum_of reading.target_of reading.term_of reading.value_of reading.words_line_of reading.conv_of
-a_bridge = refl
 
 -- a bridge where words have four bytes
-short_words : Says adding I386
+abbrev short_words : Type 0
+short_words =
+    Says adding I386
     (codes "object o nsIT"
     ∷ codes "bridge q o aapcs64" ∷ [])
     (codes "> object o nsIT"
     ∷ codes "at 103f0"
     ∷ codes "> bridge q o aapcs64"
     ∷ codes "refused word" ∷ [])
-unfolding digits decode_pairs by_index lineage_within member_within slots_within numbers frame_text low_bytes call_sights call_text chain_within entered_frame member_named call_of enter_of new_context new_data new_forwarder new_object new_rule outcome poked shown_block shown_variable static reading.after reading.before reading.act_of reading.arg_of reading.bytes_of reading.cut_at reading.decimal_of reading.digits_of reading.fill_of reading.fill_kind_of reading.frame_item_of reading.iid_of reading.item_of reading.line_of reading.member_of reading.method_of reading.name_of reading.number_of reading.out_of reading.set_of reading.sum_of reading.target_of reading.term_of reading.value_of reading.words_line_of reading.conv_of
-short_words = refl
 
 -- a proxy has no replies of its own
-no_reply_of_a_proxy : Says adding SysV64
+abbrev no_reply_of_a_proxy : Type 0
+no_reply_of_a_proxy =
+    Says adding SysV64
     (codes "object o nsIT"
     ∷ codes "reply o nsIT.add a2=$a0+$a1"
     ∷ codes "proxy p o"
@@ -93,11 +96,11 @@ no_reply_of_a_proxy : Says adding SysV64
     ∷ codes "at 107e0"
     ∷ codes "> reply p nsIT.add a2=1"
     ∷ codes "refused proxy" ∷ [])
-unfolding digits decode_pairs by_index lineage_within member_within slots_within numbers frame_text low_bytes call_sights call_text chain_within entered_frame member_named call_of enter_of new_context new_data new_forwarder new_object new_rule outcome poked shown_block shown_variable static reading.after reading.before reading.act_of reading.arg_of reading.bytes_of reading.cut_at reading.decimal_of reading.digits_of reading.fill_of reading.fill_kind_of reading.frame_item_of reading.iid_of reading.item_of reading.line_of reading.member_of reading.method_of reading.name_of reading.number_of reading.out_of reading.set_of reading.sum_of reading.target_of reading.term_of reading.value_of reading.words_line_of reading.conv_of
-no_reply_of_a_proxy = refl
 
 -- the seventeenth proxy in a row
-seventeen_proxies : Says adding SysV64
+abbrev seventeen_proxies : Type 0
+seventeen_proxies =
+    Says adding SysV64
     (codes "object p0 nsIT"
     ∷ codes "proxy p1 p0"
     ∷ codes "proxy p2 p1"
@@ -152,5 +155,17 @@ seventeen_proxies : Says adding SysV64
     ∷ codes "at 108d0"
     ∷ codes "> proxy p17 p16"
     ∷ codes "refused depth" ∷ [])
-unfolding digits decode_pairs by_index lineage_within member_within slots_within numbers frame_text low_bytes call_sights call_text chain_within entered_frame member_named call_of enter_of new_context new_data new_forwarder new_object new_rule outcome poked shown_block shown_variable static reading.after reading.before reading.act_of reading.arg_of reading.bytes_of reading.cut_at reading.decimal_of reading.digits_of reading.fill_of reading.fill_kind_of reading.frame_item_of reading.iid_of reading.item_of reading.line_of reading.member_of reading.method_of reading.name_of reading.number_of reading.out_of reading.set_of reading.sum_of reading.target_of reading.term_of reading.value_of reading.words_line_of reading.conv_of
-seventeen_proxies = refl
+
+-- each follows by computing
+they_say :
+    a_proxy × a_bridge × short_words × no_reply_of_a_proxy × seventeen_proxies
+unfolding digits decode_pairs by_index lineage_within member_within slots_within numbers frame_text
+    low_bytes call_sights call_text chain_within entered_frame member_named call_of enter_of
+    new_context new_data new_forwarder new_object new_rule outcome poked shown_block
+    shown_variable static reading.after reading.before reading.act_of reading.arg_of
+    reading.bytes_of reading.cut_at reading.decimal_of reading.digits_of reading.fill_of
+    reading.fill_kind_of reading.frame_item_of reading.iid_of reading.item_of reading.line_of
+    reading.member_of reading.method_of reading.name_of reading.number_of reading.out_of
+    reading.set_of reading.sum_of reading.target_of reading.term_of reading.value_of
+    reading.words_line_of reading.conv_of
+they_say = (refl, refl, refl, refl, refl)

@@ -1,4 +1,5 @@
--- The transcripts of calls out of which arrays, names and bytes come, worked out by hand from the rules of the conventions and of scripts.
+-- The transcripts of calls out of which arrays, names and bytes come,
+-- worked out by hand from the rules of the conventions and of scripts.
 use Rattle.std.proofs.Common.{[], ◌∷◌, refl}
 use Rattle.std.specs.Prelude.{codes}
 use Rattle.call_model.specs.declared.places.Conv.TheVariants.{SysV64}
@@ -20,7 +21,9 @@ use Rattle.script_meaning.proofs.Says.{Says}
 use Rattle.script_meaning.proofs.RowTables.{adding, arrays, makers, parts, strings, titles}
 
 -- an array with its count
-an_array : Says arrays SysV64
+abbrev an_array : Type 0
+an_array =
+    Says arrays SysV64
     (codes "data buf 0100feff0300"
     ∷ codes "object o nsIL"
     ∷ codes "reply o nsIL.list a0=3 a1=@buf"
@@ -40,11 +43,11 @@ an_array : Says arrays SysV64
     ∷ codes "result 00000000"
     ∷ codes "out 0 3"
     ∷ codes "out 1 0x107d0 [1 -2 3]" ∷ [])
-unfolding digits decode_pairs by_index lineage_within member_within slots_within numbers frame_text low_bytes call_sights call_text chain_within entered_frame member_named call_of enter_of new_context new_data new_forwarder new_object new_rule outcome poked shown_block shown_variable static reading.after reading.before reading.act_of reading.arg_of reading.bytes_of reading.cut_at reading.decimal_of reading.digits_of reading.fill_of reading.fill_kind_of reading.frame_item_of reading.iid_of reading.item_of reading.line_of reading.member_of reading.method_of reading.name_of reading.number_of reading.out_of reading.set_of reading.sum_of reading.target_of reading.term_of reading.value_of reading.words_line_of reading.conv_of
-an_array = refl
 
 -- as many elements as are in use
-a_part : Says parts SysV64
+abbrev a_part : Type 0
+a_part =
+    Says parts SysV64
     (codes "data buf 0100feff0300"
     ∷ codes "object o nsIP"
     ∷ codes "reply o nsIP.part a1=2 a2=@buf"
@@ -64,11 +67,11 @@ a_part : Says parts SysV64
     ∷ codes "result 00000000"
     ∷ codes "out 1 2"
     ∷ codes "out 2 0x107d0 [1 -2]" ∷ [])
-unfolding digits decode_pairs by_index lineage_within member_within slots_within numbers frame_text low_bytes call_sights call_text chain_within entered_frame member_named call_of enter_of new_context new_data new_forwarder new_object new_rule outcome poked shown_block shown_variable static reading.after reading.before reading.act_of reading.arg_of reading.bytes_of reading.cut_at reading.decimal_of reading.digits_of reading.fill_of reading.fill_kind_of reading.frame_item_of reading.iid_of reading.item_of reading.line_of reading.member_of reading.method_of reading.name_of reading.number_of reading.out_of reading.set_of reading.sum_of reading.target_of reading.term_of reading.value_of reading.words_line_of reading.conv_of
-a_part = refl
 
 -- more elements than there is room for
-too_many : Says parts SysV64
+abbrev too_many : Type 0
+too_many =
+    Says parts SysV64
     (codes "data buf 0100feff0300"
     ∷ codes "object o nsIP"
     ∷ codes "reply o nsIP.part a1=4 a2=@buf"
@@ -88,11 +91,11 @@ too_many : Says parts SysV64
     ∷ codes "result 00000000"
     ∷ codes "out 1 4"
     ∷ codes "out 2 0x107d0 [?]" ∷ [])
-unfolding digits decode_pairs by_index lineage_within member_within slots_within numbers frame_text low_bytes call_sights call_text chain_within entered_frame member_named call_of enter_of new_context new_data new_forwarder new_object new_rule outcome poked shown_block shown_variable static reading.after reading.before reading.act_of reading.arg_of reading.bytes_of reading.cut_at reading.decimal_of reading.digits_of reading.fill_of reading.fill_kind_of reading.frame_item_of reading.iid_of reading.item_of reading.line_of reading.member_of reading.method_of reading.name_of reading.number_of reading.out_of reading.set_of reading.sum_of reading.target_of reading.term_of reading.value_of reading.words_line_of reading.conv_of
-too_many = refl
 
 -- no elements
-none : Says parts SysV64
+abbrev none : Type 0
+none =
+    Says parts SysV64
     (codes "data buf 0100feff0300"
     ∷ codes "object o nsIP"
     ∷ codes "reply o nsIP.part a1=0 a2=@buf"
@@ -112,11 +115,11 @@ none : Says parts SysV64
     ∷ codes "result 00000000"
     ∷ codes "out 1 0"
     ∷ codes "out 2 0x107d0 []" ∷ [])
-unfolding digits decode_pairs by_index lineage_within member_within slots_within numbers frame_text low_bytes call_sights call_text chain_within entered_frame member_named call_of enter_of new_context new_data new_forwarder new_object new_rule outcome poked shown_block shown_variable static reading.after reading.before reading.act_of reading.arg_of reading.bytes_of reading.cut_at reading.decimal_of reading.digits_of reading.fill_of reading.fill_kind_of reading.frame_item_of reading.iid_of reading.item_of reading.line_of reading.member_of reading.method_of reading.name_of reading.number_of reading.out_of reading.set_of reading.sum_of reading.target_of reading.term_of reading.value_of reading.words_line_of reading.conv_of
-none = refl
 
 -- the characters of a string with a size
-a_sized_string : Says strings SysV64
+abbrev a_sized_string : Type 0
+a_sized_string =
+    Says strings SysV64
     (codes "data b 6142c3"
     ∷ codes "object o nsIS"
     ∷ codes "reply o nsIS.read a1=@b"
@@ -135,11 +138,11 @@ a_sized_string : Says strings SysV64
     ∷ codes "got 3 0x40000008"
     ∷ codes "result 00000000"
     ∷ codes "out 1 0x107d0 [97 66 195]" ∷ [])
-unfolding digits decode_pairs by_index lineage_within member_within slots_within numbers frame_text low_bytes call_sights call_text chain_within entered_frame member_named call_of enter_of new_context new_data new_forwarder new_object new_rule outcome poked shown_block shown_variable static reading.after reading.before reading.act_of reading.arg_of reading.bytes_of reading.cut_at reading.decimal_of reading.digits_of reading.fill_of reading.fill_kind_of reading.frame_item_of reading.iid_of reading.item_of reading.line_of reading.member_of reading.method_of reading.name_of reading.number_of reading.out_of reading.set_of reading.sum_of reading.target_of reading.term_of reading.value_of reading.words_line_of reading.conv_of
-a_sized_string = refl
 
 -- bytes behind the address of a string
-a_string_class : Says titles SysV64
+abbrev a_string_class : Type 0
+a_string_class =
+    Says titles SysV64
     (codes "data b 00000000"
     ∷ codes "object o nsIS"
     ∷ codes "reply o nsIS.get:title [a0+1]=4142"
@@ -160,11 +163,11 @@ a_string_class : Says titles SysV64
     ∷ codes "result 00000000"
     ∷ codes "> show b"
     ∷ codes "00414200" ∷ [])
-unfolding digits decode_pairs by_index lineage_within member_within slots_within numbers frame_text low_bytes call_sights call_text chain_within entered_frame member_named call_of enter_of new_context new_data new_forwarder new_object new_rule outcome poked shown_block shown_variable static reading.after reading.before reading.act_of reading.arg_of reading.bytes_of reading.cut_at reading.decimal_of reading.digits_of reading.fill_of reading.fill_kind_of reading.frame_item_of reading.iid_of reading.item_of reading.line_of reading.member_of reading.method_of reading.name_of reading.number_of reading.out_of reading.set_of reading.sum_of reading.target_of reading.term_of reading.value_of reading.words_line_of reading.conv_of
-a_string_class = refl
 
 -- the interface whose IID stands in memory, and a call through a variable
-an_interface_by_its_iid : Says adding SysV64
+abbrev an_interface_by_its_iid : Type 0
+an_interface_by_its_iid =
+    Says adding SysV64
     (codes "data i iid 01020304-0506-0708-090a-0b0c0d0e0f10"
     ∷ codes "object o nsIT"
     ∷ codes "reply o nsISupports.QueryInterface a1=@o"
@@ -195,11 +198,11 @@ an_interface_by_its_iid : Says adding SysV64
     ∷ codes "out 2 0"
     ∷ codes "> show i"
     ∷ codes "0403020106050807090a0b0c0d0e0f10" ∷ [])
-unfolding digits decode_pairs by_index lineage_within member_within slots_within numbers frame_text low_bytes call_sights call_text chain_within entered_frame member_named call_of enter_of new_context new_data new_forwarder new_object new_rule outcome poked shown_block shown_variable static reading.after reading.before reading.act_of reading.arg_of reading.bytes_of reading.cut_at reading.decimal_of reading.digits_of reading.fill_of reading.fill_kind_of reading.frame_item_of reading.iid_of reading.item_of reading.line_of reading.member_of reading.method_of reading.name_of reading.number_of reading.out_of reading.set_of reading.sum_of reading.target_of reading.term_of reading.value_of reading.words_line_of reading.conv_of
-an_interface_by_its_iid = refl
 
 -- the interface that a type names, with a name that is no word
-an_interface_by_its_number : Says makers SysV64
+abbrev an_interface_by_its_number : Type 0
+an_interface_by_its_number =
+    Says makers SysV64
     (codes "object o nsIM"
     ∷ codes "reply o nsIM.make a0=@o"
     ∷ codes "call o nsIM.make ->x" ∷ [])
@@ -215,5 +218,18 @@ an_interface_by_its_number : Says makers SysV64
     ∷ codes "got 0x40000000"
     ∷ codes "result 00000000"
     ∷ codes "out 0 0x107d0 ns\\20I\\5c" ∷ [])
-unfolding digits decode_pairs by_index lineage_within member_within slots_within numbers frame_text low_bytes call_sights call_text chain_within entered_frame member_named call_of enter_of new_context new_data new_forwarder new_object new_rule outcome poked shown_block shown_variable static reading.after reading.before reading.act_of reading.arg_of reading.bytes_of reading.cut_at reading.decimal_of reading.digits_of reading.fill_of reading.fill_kind_of reading.frame_item_of reading.iid_of reading.item_of reading.line_of reading.member_of reading.method_of reading.name_of reading.number_of reading.out_of reading.set_of reading.sum_of reading.target_of reading.term_of reading.value_of reading.words_line_of reading.conv_of
-an_interface_by_its_number = refl
+
+-- each follows by computing
+they_say :
+    an_array × a_part × too_many × none × a_sized_string × a_string_class ×
+    an_interface_by_its_iid × an_interface_by_its_number
+unfolding digits decode_pairs by_index lineage_within member_within slots_within numbers frame_text
+    low_bytes call_sights call_text chain_within entered_frame member_named call_of enter_of
+    new_context new_data new_forwarder new_object new_rule outcome poked shown_block
+    shown_variable static reading.after reading.before reading.act_of reading.arg_of
+    reading.bytes_of reading.cut_at reading.decimal_of reading.digits_of reading.fill_of
+    reading.fill_kind_of reading.frame_item_of reading.iid_of reading.item_of reading.line_of
+    reading.member_of reading.method_of reading.name_of reading.number_of reading.out_of
+    reading.set_of reading.sum_of reading.target_of reading.term_of reading.value_of
+    reading.words_line_of reading.conv_of
+they_say = (refl, refl, refl, refl, refl, refl, refl, refl)

@@ -1,4 +1,5 @@
--- The transcripts of lines that are refused, worked out by hand from the rules of the conventions and of scripts.
+-- The transcripts of lines that are refused,
+-- worked out by hand from the rules of the conventions and of scripts.
 use Rattle.std.proofs.Common.{[], ◌∷◌, refl}
 use Rattle.std.specs.Prelude.{codes}
 use Rattle.call_model.specs.declared.places.Conv.TheVariants.{SysV64, I386}
@@ -20,7 +21,9 @@ use Rattle.script_meaning.proofs.Says.{Says}
 use Rattle.script_meaning.proofs.RowTables.{adding, closed_methods}
 
 -- calls that are refused, and names
-refused_calls : Says adding SysV64
+abbrev refused_calls : Type 0
+refused_calls =
+    Says adding SysV64
     (codes "object o nsIT"
     ∷ codes "reply o nsIT.add a2=$a0+$a1"
     ∷ codes "call o nsIT.add 2 -1 ->s"
@@ -63,11 +66,11 @@ refused_calls : Says adding SysV64
     ∷ codes "at 107e0"
     ∷ codes "> call p nsIT.add 1 1 ->s"
     ∷ codes "refused wrong interface" ∷ [])
-unfolding digits decode_pairs by_index lineage_within member_within slots_within numbers frame_text low_bytes call_sights call_text chain_within entered_frame member_named call_of enter_of new_context new_data new_forwarder new_object new_rule outcome poked shown_block shown_variable static reading.after reading.before reading.act_of reading.arg_of reading.bytes_of reading.cut_at reading.decimal_of reading.digits_of reading.fill_of reading.fill_kind_of reading.frame_item_of reading.iid_of reading.item_of reading.line_of reading.member_of reading.method_of reading.name_of reading.number_of reading.out_of reading.set_of reading.sum_of reading.target_of reading.term_of reading.value_of reading.words_line_of reading.conv_of
-refused_calls = refl
 
 -- methods that may not be called, and that are not there
-refused_methods : Says closed_methods SysV64
+abbrev refused_methods : Type 0
+refused_methods =
+    Says closed_methods SysV64
     (codes "object o nsIH"
     ∷ codes "call o nsIH.h"
     ∷ codes "call o nsIH.q"
@@ -100,22 +103,22 @@ refused_methods : Says closed_methods SysV64
     ∷ codes "refused no interface"
     ∷ codes "> object j nsIJ"
     ∷ codes "refused no interface" ∷ [])
-unfolding digits decode_pairs by_index lineage_within member_within slots_within numbers frame_text low_bytes call_sights call_text chain_within entered_frame member_named call_of enter_of new_context new_data new_forwarder new_object new_rule outcome poked shown_block shown_variable static reading.after reading.before reading.act_of reading.arg_of reading.bytes_of reading.cut_at reading.decimal_of reading.digits_of reading.fill_of reading.fill_kind_of reading.frame_item_of reading.iid_of reading.item_of reading.line_of reading.member_of reading.method_of reading.name_of reading.number_of reading.out_of reading.set_of reading.sum_of reading.target_of reading.term_of reading.value_of reading.words_line_of reading.conv_of
-refused_methods = refl
 
 -- a context that is no word, and one that is not known
-refused_contexts : Says adding I386
+abbrev refused_contexts : Type 0
+refused_contexts =
+    Says adding I386
     (codes "context 4294967296"
     ∷ codes "context $v" ∷ [])
     (codes "> context 4294967296"
     ∷ codes "refused range 0"
     ∷ codes "> context $v"
     ∷ codes "refused no name" ∷ [])
-unfolding digits decode_pairs by_index lineage_within member_within slots_within numbers frame_text low_bytes call_sights call_text chain_within entered_frame member_named call_of enter_of new_context new_data new_forwarder new_object new_rule outcome poked shown_block shown_variable static reading.after reading.before reading.act_of reading.arg_of reading.bytes_of reading.cut_at reading.decimal_of reading.digits_of reading.fill_of reading.fill_kind_of reading.frame_item_of reading.iid_of reading.item_of reading.line_of reading.member_of reading.method_of reading.name_of reading.number_of reading.out_of reading.set_of reading.sum_of reading.target_of reading.term_of reading.value_of reading.words_line_of reading.conv_of
-refused_contexts = refl
 
 -- bytes that are written into a block
-pokes : Says adding SysV64
+abbrev pokes : Type 0
+pokes =
+    Says adding SysV64
     (codes "data d 11223344"
     ∷ codes "poke d 2 aabb"
     ∷ codes "show d"
@@ -143,13 +146,25 @@ pokes : Says adding SysV64
     ∷ codes "at 107f0"
     ∷ codes "> show z"
     ∷ codes "-" ∷ [])
-unfolding digits decode_pairs by_index lineage_within member_within slots_within numbers frame_text low_bytes call_sights call_text chain_within entered_frame member_named call_of enter_of new_context new_data new_forwarder new_object new_rule outcome poked shown_block shown_variable static reading.after reading.before reading.act_of reading.arg_of reading.bytes_of reading.cut_at reading.decimal_of reading.digits_of reading.fill_of reading.fill_kind_of reading.frame_item_of reading.iid_of reading.item_of reading.line_of reading.member_of reading.method_of reading.name_of reading.number_of reading.out_of reading.set_of reading.sum_of reading.target_of reading.term_of reading.value_of reading.words_line_of reading.conv_of
-pokes = refl
 
 -- more bytes than the heap has
-no_room : Says adding SysV64
+abbrev no_room : Type 0
+no_room =
+    Says adding SysV64
     (codes "data z zero 16777217" ∷ [])
     (codes "> data z zero 16777217"
     ∷ codes "refused heap" ∷ [])
-unfolding digits decode_pairs by_index lineage_within member_within slots_within numbers frame_text low_bytes call_sights call_text chain_within entered_frame member_named call_of enter_of new_context new_data new_forwarder new_object new_rule outcome poked shown_block shown_variable static reading.after reading.before reading.act_of reading.arg_of reading.bytes_of reading.cut_at reading.decimal_of reading.digits_of reading.fill_of reading.fill_kind_of reading.frame_item_of reading.iid_of reading.item_of reading.line_of reading.member_of reading.method_of reading.name_of reading.number_of reading.out_of reading.set_of reading.sum_of reading.target_of reading.term_of reading.value_of reading.words_line_of reading.conv_of
-no_room = refl
+
+-- each follows by computing
+they_say :
+    refused_calls × refused_methods × refused_contexts × pokes × no_room
+unfolding digits decode_pairs by_index lineage_within member_within slots_within numbers frame_text
+    low_bytes call_sights call_text chain_within entered_frame member_named call_of enter_of
+    new_context new_data new_forwarder new_object new_rule outcome poked shown_block
+    shown_variable static reading.after reading.before reading.act_of reading.arg_of
+    reading.bytes_of reading.cut_at reading.decimal_of reading.digits_of reading.fill_of
+    reading.fill_kind_of reading.frame_item_of reading.iid_of reading.item_of reading.line_of
+    reading.member_of reading.method_of reading.name_of reading.number_of reading.out_of
+    reading.set_of reading.sum_of reading.target_of reading.term_of reading.value_of
+    reading.words_line_of reading.conv_of
+they_say = (refl, refl, refl, refl, refl)

@@ -18,7 +18,7 @@ by_test p Q y later x has rest true passes is =
     subst (λ z. (p z ≡ true) × Q z) (same_Some y x is) (passes, has)
 by_test p Q y later x has rest false fails is = rest is
 
-first-found : {X : Type 0} (p : X → Bool) (Q : X → Type 0) (xs : List X) (x : X)
+pub first-found : {X : Type 0} (p : X → Bool) (Q : X → Type 0) (xs : List X) (x : X)
     → All Q xs → find p xs ≡ Some x → (p x ≡ true) × Q x
 first-found p Q [] x all is = absurd (none-some x is)
 first-found p Q (y ∷ ys) x all is =

@@ -1,5 +1,5 @@
--- A call that is not refused, or an enter: its frames, the values that are received, the reply, what
--- comes out, and what is written and shown of it. All but the frames of the first object depends on
+-- A call that is not refused, or an enter: its frames, the values that are received, the reply,
+-- what comes out, and what is written and shown of it. All but the first object's frame depends on
 -- the received values alone.
 use Rattle.std.specs.Prelude.{ℕ, ◌+◌, Bool, true, false, List, [], ◌∷◌, ◌++◌, map, filter, fold, length, drop, take, slice_get, slice_index, codes, option_and_then, Option, if◌then◌else◌}
 use Rattle.std.specs.List.{flat_map, range_with_len}
@@ -180,11 +180,17 @@ frames state conv call values =
 abbrev pub last_frame : FrameView → List FrameView → FrameView
 last_frame first frames = fold (λ f g. g) first frames
 
--- one for each frame on the way, before its object is entered, and one after the reply
+-- what is shown before an object is entered with a frame, and after the reply
+abbrev pub sight_before : State → Conv → Call → FrameView → Sight
+sight_before state conv call frame = sight conv (memory_before state call) frame
+
+abbrev pub sight_after : State → Conv → Call → (values : List ℕ) → FrameView → Sight
+sight_after state conv call values frame =
+    sight conv (reply_to state conv call values).memory frame
+
+-- one sight for each frame on the way, and one more of the last
 unfoldable pub call_sights : State → Conv → Call → (values : List ℕ) → List Sight
 call_sights state conv call values =
-    map (sight conv (memory_before state call)) (frames state conv call values)
-    ++ sight
-    conv
-    (reply_to state conv call values).memory
-    (last_frame call.frame (frames state conv call values)) ∷ []
+    map (sight_before state conv call) (frames state conv call values)
+    ++ sight_after state conv call values (last_frame call.frame (frames state conv call values))
+    ∷ []

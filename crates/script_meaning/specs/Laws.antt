@@ -13,10 +13,11 @@ use Rattle.transcript_text.specs.declared.refusals.Refusal.{Refusal}
 use Rattle.call_replies.specs.Blocks.{Block}
 use Rattle.script_meaning.specs.Chain.{AllHandDown, HandsDown, chain_of, chain_within}
 use Rattle.script_meaning.specs.Enters.{entered_frame, misformed}
+use Rattle.script_meaning.specs.Lawful.{IsLawful}
 use Rattle.script_meaning.specs.Members.{Member, member_named}
 use Rattle.script_meaning.specs.State.{Name, State, named, number_in}
 use Rattle.script_meaning.specs.Step.{Stepped, echo_text, outcome, refused_text, settled, step}
-use Rattle.script_meaning.specs.Transcript.{run_from}
+use Rattle.script_meaning.specs.Transcript.{end, run_from}
 
 -- ---- refused lines
 
@@ -44,6 +45,19 @@ RefusedChangesNothing =
     → outcome table conv state line.act ≡ Err e
     → IsRefused table conv state line lines e
 
+-- ---- states
+
+-- a line leaves a lawful state lawful
+abbrev pub StepsKeepLawful : Type 0
+StepsKeepLawful =
+    (table : Table) (conv : Conv) (state : State) (line : Line)
+    → IsLawful conv state → IsLawful conv (step table conv state line).state
+
+-- so every state at the end of a script is lawful
+abbrev pub EndsAreLawful : Type 0
+EndsAreLawful =
+    (table : Table) (conv : Conv) (lines : List Line) → IsLawful conv (end table conv lines)
+
 -- ---- enters
 
 -- the items of an `enter` line are well formed, and the frame that they give conforms to values
@@ -67,8 +81,8 @@ pub record SameOutcome (one other : Stepped) : Type 0 where
   pub text : one.text ≡ other.text
   pub state : one.state ≡ other.state
 
--- two `enter` lines for one object and one member, whose frames conform to the same values, have the
--- same outcome, whatever stands in the free bits and bytes
+-- two `enter` lines for one object and one member, whose frames conform to the same values, have
+-- the same outcome, whatever stands in the free bits and bytes
 abbrev pub EntersAlike : Type 0
 EntersAlike =
     (table : Table) (conv : Conv) (state : State) (name : Name) (member : MemberRef)

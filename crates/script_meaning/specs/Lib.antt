@@ -1,6 +1,7 @@
 pub mod Calls
 pub mod Chain
 pub mod Enters
+pub mod Lawful
 pub mod Laws
 pub mod Members
 pub mod Outs

@@ -35,10 +35,13 @@ callable statuses.Hidden proto = Err refusal.Hidden
 callable statuses.NotXpcom proto = Err refusal.NotXpcom
 callable statuses.Opaque proto = Err refusal.Opaque
 
+abbrev pub slot_named : Table → (iface : ℕ) → MemberRef → Option ℕ
+slot_named table iface member = member_of table iface (kind_of member.kind) member.name
+
 unfoldable pub member_named : Table → MemberRef → Result Member Refusal
 member_named table member =
     there_is (iface_named table member.iface) refusal.NoInterface
-    then λ iface. there_is (member_of table iface (kind_of member.kind) member.name) refusal.NoMethod
+    then λ iface. there_is (slot_named table iface member) refusal.NoMethod
     then λ slot. there_is (slice_get (slots_of table iface) slot) refusal.NoMethod
     then λ entry. callable entry.status entry.proto
     then λ proto. Ok (record { iface = iface; slot = slot; proto = proto })

@@ -103,6 +103,6 @@ ruled rules object slot rule o s =
 abbrev pub with_rule : State → (object slot : ℕ) → Rule → State
 with_rule state object slot rule = record state { rules = ruled state.rules object slot rule }
 
-abbrev pub learned : Variables → Name → ℤ → Variables
-learned variables name number other =
-    if bytes_eq name other then Some number else variables other
+-- a name stands for this from now on
+abbrev pub learned : {X : Type 0} → (Name → Option X) → Name → X → Name → Option X
+learned known name now other = if bytes_eq name other then Some now else known other

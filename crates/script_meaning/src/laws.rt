@@ -1,11 +1,19 @@
 //! The laws of what scripts mean, each as the clause of a function that does nothing.
 
-ghost use Rattle.script_meaning.specs.Laws.{ChainsEnd, EntersAlike, RefusedChangesNothing};
+ghost use Rattle.script_meaning.specs.Laws.{ChainsEnd, EndsAreLawful, EntersAlike, RefusedChangesNothing, StepsKeepLawful};
 
 /// A refused line leaves the state as it was, blocks, rules, variables, context and forwarders
 /// alike; it writes its words and why; and the next lines run from this state.
 pub fn a_refused_line_changes_nothing()
     ensures { RefusedChangesNothing }
+{}
+
+/// In the states that scripts leave each block stands behind the one before it, all within the room
+/// of the heap; objects are numbered from 0; each forwarder hands its calls to an object of a
+/// smaller number; and the context is an address. Each line keeps this.
+pub fn states_are_lawful()
+    ensures kept { StepsKeepLawful }
+    ensures at_the_end { EndsAreLawful }
 {}
 
 /// Two `enter` lines for one object and one member, that have no item of wrong form and whose

@@ -1,0 +1,72 @@
+-- What a stage stands for: a state of the script.
+use Rattle.std.specs.Prelude.{◌≡◌, ℕ, List, [], ◌++◌, length, codes, option_map, Option, Result, Ok, Err}
+use Rattle.std.specs.Str.{bytes_eq}
+use Rattle.indexmap.specs.IndexMap.{get_by}
+use Rattle.xp_base.specs.Digits.{hex_digits}
+use Rattle.transcript_text.specs.Texts.{ended}
+use Rattle.transcript_text.specs.declared.refusals.Refusal.{Refusal}
+use Rattle.call_replies.specs.Blocks.{Block, Held, Data, Object, Forwarder, HoldsBlocks}
+use Rattle.script_meaning.specs.Lawful.{IsLawful}
+use Rattle.script_meaning.specs.State.{Name, State, named}
+use Rattle.script_meaning.specs.Step.{Stepped}
+use Rattle.script_stage.specs.declared.errors.StepError.{StepError}
+use Rattle.script_stage.specs.declared.errors.StepError.TheVariants.{Refused, Memory}
+use Rattle.script_stage.specs.declared.names.Names.{Names}
+use Rattle.script_stage.specs.declared.placed.Kind.{Kind}
+use Rattle.script_stage.specs.declared.placed.Kind.TheVariants as kinds
+use Rattle.script_stage.specs.declared.placed.Placed.{Placed}
+use Rattle.script_stage.specs.declared.stages.Stage.{Stage}
+
+-- what a name stands for
+abbrev pub known : {T : Type 0} → Names T → Name → Option T
+known names name = get_by (λ k. bytes_eq name k.now) names.map
+
+-- ---- blocks
+
+abbrev pub kind_of : Held → Kind
+kind_of (Data bytes) = kinds.Data (length bytes)
+kind_of (Object number iface) = kinds.Object number iface
+kind_of (Forwarder number iface target own) = kinds.Object number iface
+
+-- what a stage keeps of a block
+abbrev pub noted : Block → Placed
+noted b = record { at = b.at; kind = kind_of b.held }
+
+-- what it keeps of the block of a name
+abbrev pub noted_as : State → Name → Option Placed
+noted_as state name = option_map noted (named state name)
+
+-- ---- stages
+
+-- the machine holds the blocks, and no cell is pushed; and the names of blocks and of variables
+-- stand for what they do in the state
+pub record Stands (stage : Stage) (state : State) : Type 0 where
+  pub lawful : IsLawful stage.machine.conv state
+  pub holds : HoldsBlocks stage.machine state.blocks
+  pub cells : stage.machine.cells ≡ []
+  pub blocks : known stage.blocks ≡ noted_as state
+  pub variables : known stage.variables ≡ state.variables
+  pub context : stage.context ≡ state.context
+
+-- what a line asks for was done, it tells this, and the stage stands for the state that it leaves
+pub record IsDone {A : Type 0} (Tells : A → List ℕ → Type 0) (asked : Result Stepped Refusal)
+    (new : Stage) (value : A) : Type 0 where
+  pub stepped : Stepped
+  pub is : asked ≡ Ok stepped
+  pub stands : Stands new stepped.state
+  pub tells : Tells value stepped.text
+  pub quiet : stepped.sights ≡ []
+
+-- a refusal is the one that is asked for, and the stage is as it was
+abbrev pub Does : {A : Type 0} → (Tells : A → List ℕ → Type 0)
+    → (asked : State → Result Stepped Refusal)
+    → (old new : Stage) → Result A StepError → Type 0
+Does Tells asked old new (Ok value) =
+    (state : State) → Stands old state → IsDone Tells (asked state) new value
+Does Tells asked old new (Err (Refused e)) =
+    (new ≡ old) × ((state : State) → Stands old state → asked state ≡ Err e)
+Does Tells asked old new (Err Memory) = Unit {0}
+
+-- an address is told as that of a new block
+abbrev pub TellsAddress : ℕ → List ℕ → Type 0
+TellsAddress address text = text ≡ ended (codes "at " ++ hex_digits address)
