@@ -7,8 +7,10 @@ mod commands;
 mod compiles;
 mod failures;
 mod fetches;
+mod places;
 mod reports;
 mod running;
+mod typelibs;
 
 pub use commands::Command;
 pub use failures::{Failure, FileFault, OUT_OF_MEMORY, Refusal};
