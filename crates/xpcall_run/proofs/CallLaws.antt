@@ -25,12 +25,10 @@ use Rattle.xpcall_run.specs.Sides.{Reads}
 use Rattle.xpcall_run.specs.TypelibWork.{RefusesTypelib}
 use Rattle.xpcall_run.specs.Works.{Written}
 use Rattle.xpcall_run.proofs.Fetching.{refused_as, settled_stops, takes_stops}
+use Rattle.xpcall_run.proofs.TypelibLaws.{library_once, typelib_apart, typelib_once}
 use Rattle.xpcall_run.proofs.Outcomes.{IsSingle, Single, settles_single, takes_comes, takes_single}
 
 -- ---- one outcome
-
-library_once : (bytes : List ℕ) (a b : Library) → Denotes bytes a → Denotes bytes b → a ≡ b
-library_once bytes a b p q = sym (denotes_one bytes a p) ∙ denotes_one bytes b q
 
 writes_once : (x b text other : List ℕ) → WritesCalls x b text → WritesCalls x b other → text ≡ other
 writes_once x b text other w v =
@@ -42,17 +40,6 @@ writes_once x b text other w v =
 script_once : (name b : List ℕ) (r s : Refusal) → RefusesScript name b r → RefusesScript name b s → r ≡ s
 script_once name b r s p q =
     p.2 ∙ ap (λ line. OfFile name (Script line)) (blames_once b p.0 q.0 p.1 q.1) ∙ sym q.2
-
-typelib_once : (name x : List ℕ) (r s : Refusal) → RefusesTypelib name x r
-    → RefusesTypelib name x s → r ≡ s
-typelib_once name x r s p q =
-    let same : p.fault ≡ q.fault = same_Some p.fault q.fault (sym p.is_first ∙ q.is_first) in
-    p.named ∙ ap (λ (f : BadTypelib). OfFile name (Typelib f.code f.at)) same ∙ sym q.named
-
--- a typelib whose bytes denote a library has no fault
-pub typelib_apart : (name x : List ℕ) (r : Refusal) (lib : Library) → RefusesTypelib name x r
-    → Denotes x lib → ⊥
-typelib_apart name x r lib p denoted = fault_denies x p.fault lib p.is_first denoted
 
 form_apart : (name x : List ℕ) (r : Refusal) → RefusesForm name x r → HasThinLibrary x → ⊥
 form_apart name x r p thin =
@@ -142,12 +129,3 @@ pub typelib_no_library : (name bytes : List ℕ) (f : Failure)
     → IsRefused (RefusesTypelib name bytes) f → IsRefused (RefusesAsThin name bytes) f
 typelib_no_library name bytes f made =
     refused_as (RefusesTypelib name bytes) (RefusesAsThin name bytes) f (λ r why. inl why) made
-
--- ---- typelibs that have a fault
-
-pub typelib_faulty : (name bytes : List ℕ) (fault : BadTypelib) (f : Failure)
-    → FirstFault bytes fault → IsRefused (λ r. r ≡ OfFile name (Typelib fault.code fault.at)) f
-    → IsRefused (RefusesTypelib name bytes) f
-typelib_faulty name bytes fault f is made =
-    refused_as (λ r. r ≡ OfFile name (Typelib fault.code fault.at)) (RefusesTypelib name bytes) f
-    (λ r named. record { fault = fault; is_first = is; named = named }) made

@@ -5,16 +5,18 @@ use Rattle.std.specs.Prelude.{IfSome, if◌then◌else◌, nat_le}
 use Rattle.std.specs.List.{list_all}
 use Rattle.xp_base.specs.Files.{Files}
 use Rattle.xpcall_run.specs.declared.commands.Command.{Command}
-use Rattle.xpcall_run.specs.declared.commands.Command.TheVariants.{Compile, Call}
+use Rattle.xpcall_run.specs.declared.commands.Command.TheVariants.{Compile, Dump, Call}
 use Rattle.xpcall_run.specs.Commands.{IsFit, are_roots, command_work, compile_of, is_file_name, work_of}
 use Rattle.xpcall_run.specs.Headline.{IsKnown}
 use Rattle.xpcall_run.specs.Works.{Written, Denied}
 use Rattle.xpcall_run.proofs.CallLaws.{call_single}
+use Rattle.xpcall_run.proofs.TypelibLaws.{dump_single}
 use Rattle.xpcall_run.proofs.CompileLaws.{compile_single}
 use Rattle.xpcall_run.proofs.Outcomes.{Settled, Single}
 
 command_single : (c : Command) → Single (command_work c)
 command_single (Compile roots) = compile_single roots
+command_single (Dump m) = dump_single m
 command_single (Call m n) = call_single m n
 
 usage_settled : (files : Option Files) → Settled (work_of None) files

@@ -10,3 +10,4 @@ pub mod Firsts
 pub mod Outcomes
 pub mod RunLaws
 pub mod TextLaws
+pub mod TypelibLaws

@@ -44,7 +44,8 @@ pub record RefusesForm (name bytes : List ℕ) (refusal : Refusal) : Type 0 wher
 
 -- its bytes denote no library, or one that is not thin
 abbrev pub RefusesAsThin : (name bytes : List ℕ) → Refusal → Type 0
-RefusesAsThin name bytes refusal = RefusesTypelib name bytes refusal ⊎ RefusesForm name bytes refusal
+RefusesAsThin name bytes refusal =
+    RefusesTypelib name bytes refusal ⊎ RefusesForm name bytes refusal
 
 -- the script of this name is refused: this line of its bytes is the first that is no thin line
 abbrev pub RefusesScript : (name bytes : List ℕ) → Refusal → Type 0

@@ -3,10 +3,11 @@ use Rattle.std.specs.Prelude.{◌≡◌, ◌≤◌, ℕ, Bool, ◌&&◌, nat_le,
 use Rattle.std.specs.List.{list_all}
 use Rattle.std.specs.Str.{bytes_eq}
 use Rattle.xpcall_run.specs.declared.commands.Command.{Command}
-use Rattle.xpcall_run.specs.declared.commands.Command.TheVariants.{Compile, Call}
+use Rattle.xpcall_run.specs.declared.commands.Command.TheVariants.{Compile, Dump, Call}
 use Rattle.xpcall_run.specs.declared.failures.Refusal.TheVariants.{Usage}
 use Rattle.xpcall_run.specs.CallWork.{call_work}
 use Rattle.xpcall_run.specs.CompileWork.{compile_work}
+use Rattle.xpcall_run.specs.TypelibWork.{dump_work}
 use Rattle.xpcall_run.specs.Works.{Work, settles}
 
 -- ---- the words
@@ -24,6 +25,11 @@ are_roots names =
 abbrev pub compile_of : List (List ℕ) → Option Command
 compile_of names = if are_roots names then Some (Compile names) else None
 
+-- behind `dump`, the name of a typelib
+abbrev pub dump_of : List (List ℕ) → Option Command
+dump_of (name ∷ []) = if is_file_name name then Some (Dump name) else None
+dump_of _ = None
+
 -- behind `call`, the word of the one convention so far, and the names of a typelib and a script
 abbrev pub call_of : List (List ℕ) → Option Command
 call_of (convention ∷ typelib ∷ script ∷ []) =
@@ -37,6 +43,7 @@ abbrev pub command_of : List (List ℕ) → Option Command
 command_of [] = None
 command_of (verb ∷ words) =
     if bytes_eq verb (codes "compile") then compile_of words
+    else if bytes_eq verb (codes "dump") then dump_of words
     else if bytes_eq verb (codes "call") then call_of words
     else None
 
@@ -47,12 +54,14 @@ asked words = command_of (map string_bytes words)
 -- a command has at most 65,535 roots
 abbrev pub IsFit : Command → Type 0
 IsFit (Compile roots) = length roots ≤ 65535
+IsFit (Dump typelib) = Unit {0}
 IsFit (Call typelib script) = Unit {0}
 
 -- ---- the works
 
 abbrev pub command_work : Command → Work
 command_work (Compile roots) = compile_work roots
+command_work (Dump typelib) = dump_work typelib
 command_work (Call typelib script) = call_work typelib script
 
 -- words that are no command are refused, and no file is asked for

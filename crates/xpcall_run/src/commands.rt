@@ -20,6 +20,8 @@ const MOST_ROOTS: usize = 65_535;
 pub enum Command {
     /// Compile the IDL files of these names, with all that they include.
     Compile(List<Bytes>),
+    /// List the typelib of this name.
+    Dump(Bytes),
     /// Make the calls of the script of this name over the typelib of this name, under the System V
     /// ABI for x86-64.
     Call { typelib: Bytes, script: Bytes },
@@ -35,6 +37,7 @@ pub fn read_command(alloc: Global, words: &[String]) -> Result<Option<Command>, 
     };
     match verb.as_str() {
         "compile" => compile_command(alloc, names),
+        "dump" => dump_command(alloc, names),
         "call" => call_command(alloc, names),
         _ => Ok(None),
     }
@@ -52,6 +55,19 @@ fn compile_command(alloc: Global, names: &[String]) -> Result<Option<Command>, M
         roots.push(Bytes::copy(alloc, name.as_bytes())?)?;
     }
     Ok(Some(Command::Compile(roots)))
+}
+
+/// The command `dump` with the words behind it; None where they are not one name.
+fn dump_command(alloc: Global, words: &[String]) -> Result<Option<Command>, Memory>
+    ensures { IfOk result (λ command. command ≡ specs.dump_of (map string_bytes words.now)) }
+{
+    let [typelib] = words else {
+        return Ok(None);
+    };
+    if !is_file_name(typelib.as_str()) {
+        return Ok(None);
+    }
+    Ok(Some(Command::Dump(Bytes::copy(alloc, typelib.as_bytes())?)))
 }
 
 /// The command `call` with the words behind it; None where they are not three that fit.

@@ -5,6 +5,7 @@
 mod calls;
 mod commands;
 mod compiles;
+mod dumps;
 mod failures;
 mod fetches;
 mod places;

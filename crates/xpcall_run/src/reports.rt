@@ -12,8 +12,8 @@ use crate::failures::{CANNOT_WRITE, Failure, FileFault, OUT_OF_MEMORY, Refusal};
 use std::alloc::Global;
 use xp_base::{Bytes, Memory, Sink, SinkError, dec_text, put_all};
 
-/// Writes the failure's text to `err` and gives the status to end with: the failure's own, or 4 where
-/// the text could not be written, or 5 where there was no memory for it.
+/// Writes the failure's text to `err` and gives the status to end with: the failure's own, or 4
+/// where the text could not be written, or 5 where there was no memory for it.
 pub fn report<E: Sink>(alloc: Global, failure: &Failure, err: &mut E) -> u8
     ensures { Reports failure.now (side_of E.written E.faults err.old err.new) result }
 {
@@ -126,8 +126,9 @@ fn put_coded<E: Sink>(
 
 /// What is said of a typelib whose first fault has this code and place, to the end of the line.
 fn typelib_words(alloc: Global, code: u8, at: u64) -> Result<Bytes, Memory>
-    ensures { IfOk result (λ said. said
-        ≡ codes ": typelib " ++ code_text code ++ codes " at " ++ decimal_text (pos at) ++ 10 ∷ []) }
+    ensures { IfOk result (λ said.
+        said ≡ codes ": typelib " ++ code_text code ++ codes " at "
+        ++ decimal_text (pos at) ++ 10 ∷ []) }
 {
     let mut said = Bytes::copy(alloc, b": typelib fault ")?;
     said.append(dec_text(alloc, i128::from(code))?.as_slice())?;

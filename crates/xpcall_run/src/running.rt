@@ -12,6 +12,7 @@ ghost use Rattle.xpcall_run.specs.declared.failures.Refusal.{Refusal as Refusals
 use crate::calls::call;
 use crate::commands::{Command, read_command};
 use crate::compiles::compile;
+use crate::dumps::dump;
 use crate::failures::{Failure, Refusal};
 use crate::reports::report;
 use std::alloc::Global;
@@ -58,6 +59,7 @@ fn obey<S: Source, O: Sink>(
 {
     match command {
         Command::Compile(roots) => compile(alloc, roots, files, out),
+        Command::Dump(typelib) => dump(alloc, typelib, files, out),
         Command::Call { typelib, script } => call(alloc, typelib, script, files, out),
     }
 }

@@ -1,4 +1,4 @@
-use Rattle.xpcall_run.proofs.CallLaws.{typelib_faulty}
+use Rattle.xpcall_run.proofs.TypelibLaws.{typelib_faulty}
 use Rattle.xpcall_run.proofs.typelibs.read_typelib.Goals as goal
 
 pub returns-in-Err-clause-err : goal.returns-in-Err-clause-err
