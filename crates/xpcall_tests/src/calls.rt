@@ -79,7 +79,7 @@ fn a_typelib_that_is_cut_is_refused(rt: HostRuntime) -> Result<(), Fail> {
         files: &[("a.xpt", &TYPELIB[..87]), ("s.txt", UNKNOWN_LINE)],
         status: 11,
         out: b"",
-        err: b"a.xpt: form\n",
+        err: b"a.xpt: typelib fault 4 at 20\n",
     };
     check(&rt, rt.alloc(), &run)
 }

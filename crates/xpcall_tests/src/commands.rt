@@ -7,11 +7,14 @@ use std::test::Fail;
 const USAGE: &[u8] = b"usage: xpcall compile FILE... | dump XPT | call CONV XPT SCRIPT | big N\n";
 
 /// Words that are no command.
-const UNKNOWN: [(&str, &[&str]); 4] = [
+const UNKNOWN: [(&str, &[&str]); 7] = [
     ("a convention that is none", &["call", "vax", "a", "b"]),
     ("an empty name", &["call", "sysv64", "a", ""]),
     ("no file", &["compile"]),
     ("an empty file name", &["compile", ""]),
+    ("an empty second name", &["compile", "a", ""]),
+    ("no typelib", &["dump"]),
+    ("two typelibs", &["dump", "a", "b"]),
 ];
 
 #[test]

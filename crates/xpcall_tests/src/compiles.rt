@@ -167,11 +167,11 @@ const INCLUDER: &[u8] = b"#include \"e.idl\"
 
 const BROKEN: &[u8] = b"// the second line is broken\ninterface ?";
 
-/// A file that includes one that includes it.
-const FIRST_OF_TWO: &[u8] = b"#include \"q.idl\"
+/// Two files that include one another.
+pub const FIRST_OF_TWO: &[u8] = b"#include \"q.idl\"
 [uuid(00000002-0000-0000-0000-000000000000)] interface nsIA : nsIB { };";
 
-const SECOND_OF_TWO: &[u8] = b"#include \"p.idl\"
+pub const SECOND_OF_TWO: &[u8] = b"#include \"p.idl\"
 interface nsIA;
 interface nsIX;
 [uuid(00000001-0000-0000-0000-000000000000)] interface nsIB { void f(in nsIA a, in nsIX x); };";
@@ -236,10 +236,7 @@ const TOGETHER: [Run<'static>; 6] = [
     Run {
         name: "the first of two faults",
         words: &["compile", "e.idl", "a.idl"],
-        files: &[
-            ("a.idl", WIDE_CONSTANT),
-            ("e.idl", b"\n\ntypedef void x;"),
-        ],
+        files: &[("a.idl", WIDE_CONSTANT), ("e.idl", b"\n\ntypedef void x;")],
         status: 10,
         out: b"",
         err: b"e.idl:3: fault 6\n",

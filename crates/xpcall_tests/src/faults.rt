@@ -13,7 +13,7 @@ const FILES: &[(&str, &[u8])] = &[
 ];
 
 /// The words of a run, its failing calls, the status, the output, and the error output.
-const RUNS: [(&str, &[&str], Failing, u8, &[u8], &[u8]); 10] = [
+const RUNS: [(&str, &[&str], Failing, u8, &[u8], &[u8]); 12] = [
     ("none", COMPILE, [0, 0, 0], 0, &TYPELIB, b""),
     (
         "the text",
@@ -69,6 +69,22 @@ const RUNS: [(&str, &[&str], Failing, u8, &[u8], &[u8]); 10] = [
         [0, 3, 0],
         4,
         b"> ",
+        b"cannot write\n",
+    ),
+    (
+        "the typelib of a listing",
+        &["dump", "a.xpt"],
+        [1, 0, 0],
+        3,
+        b"",
+        b"cannot read a.xpt\n",
+    ),
+    (
+        "the eighth byte of a listing",
+        &["dump", "a.xpt"],
+        [0, 8, 0],
+        4,
+        b"typelib",
         b"cannot write\n",
     ),
     (
