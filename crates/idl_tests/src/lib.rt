@@ -1,12 +1,10 @@
-//! What XPIDL texts come to: their tokens, their trees and the typelibs of thin ones.
+//! What XPIDL texts come to: their tokens, their trees and their closures.
 #![tactic(auto)]
 
 #[cfg(test)]
 mod closures;
 #[cfg(test)]
 mod outline;
-#[cfg(test)]
-mod thin_texts;
 #[cfg(test)]
 mod tokens;
 #[cfg(test)]

@@ -1,8 +1,8 @@
 -- Texts, prefixes and statuses at the end of a run.
-use Rattle.std.proofs.Common.{◌≡◌, ◌⊎◌, ℕ, ◌<◌, ◌≤◌, List, length, Option, inl, inr, refl, sym, ap, subst, ◌∙◌, arith}
+use Rattle.std.proofs.Common.{◌≡◌, ◌⊎◌, ℕ, ◌<◌, List, length, inl, inr, refl, sym, subst, arith}
 use Rattle.std.proofs.Math.Seq.{take-length}
 use Rattle.xpcall_run.specs.declared.failures.FileFault.{FileFault}
-use Rattle.xpcall_run.specs.declared.failures.FileFault.TheVariants.{Missing, TooLong, Token, Syntax, Form, Typelib, Script}
+use Rattle.xpcall_run.specs.declared.failures.FileFault.TheVariants.{Missing, TooLong, Token, Syntax, Fault, Typelib, Form, Script}
 use Rattle.xpcall_run.specs.declared.failures.Failure.{Failure}
 use Rattle.xpcall_run.specs.declared.failures.Failure.TheVariants.{CannotRead, CannotWrite, OutOfMemory, Refused}
 use Rattle.xpcall_run.specs.declared.failures.Refusal.{Refusal}
@@ -28,8 +28,9 @@ fault_known Missing = (5, omega arith, refl)
 fault_known TooLong = (6, omega arith, refl)
 fault_known (Token line) = (7, omega arith, refl)
 fault_known (Syntax line) = (7, omega arith, refl)
-fault_known Form = (7, omega arith, refl)
-fault_known Typelib = (8, omega arith, refl)
+fault_known (Fault code line) = (7, omega arith, refl)
+fault_known (Typelib code place) = (8, omega arith, refl)
+fault_known Form = (8, omega arith, refl)
 fault_known (Script line) = (9, omega arith, refl)
 
 refusal_known : (refusal : Refusal) → IsStatus (refusal_status refusal)
@@ -49,8 +50,9 @@ fault_positive Missing = omega arith
 fault_positive TooLong = omega arith
 fault_positive (Token line) = omega arith
 fault_positive (Syntax line) = omega arith
+fault_positive (Fault code line) = omega arith
+fault_positive (Typelib code place) = omega arith
 fault_positive Form = omega arith
-fault_positive Typelib = omega arith
 fault_positive (Script line) = omega arith
 
 refusal_positive : (refusal : Refusal) → 0 < refusal_status refusal

@@ -1,9 +1,9 @@
 -- How a work stops that asks for files.
-use Rattle.std.proofs.Common.{◌≡◌, ◌⊎◌, ℕ, ◌+◌, ◌<◌, ◌≤◌, List, length, take, Option, Some, None, Result, Ok, Err, IfErr, OnErr, inl, inr, refl, ap, subst, arith, length-take}
+use Rattle.std.proofs.Common.{◌≡◌, ℕ, ◌+◌, ◌<◌, ◌≤◌, List, length, take, Option, Some, None, Result, Ok, Err, IfErr, OnErr, inl, inr, refl, ap, subst, arith, length-take}
 use Rattle.xp_base.specs.Causes.{Rose}
 use Rattle.xp_base.specs.Files.{Files, fetched, file_in}
 use Rattle.xp_base.specs.declared.sources.Fetched.TheVariants.{Found}
-use Rattle.xpcall_run.specs.declared.failures.FileFault.TheVariants.{Missing, TooLong}
+use Rattle.xpcall_run.specs.declared.failures.FileFault.TheVariants.{TooLong}
 use Rattle.xpcall_run.specs.declared.failures.Failure.{Failure}
 use Rattle.xpcall_run.specs.declared.failures.Failure.TheVariants.{CannotRead, CannotWrite, OutOfMemory, Refused}
 use Rattle.xpcall_run.specs.declared.failures.Refusal.{Refusal}

@@ -1,5 +1,5 @@
 -- Which failure comes first, by how far the work came.
-use Rattle.std.proofs.Common.{◌≡◌, ◌⊎◌, ℕ, List, Option, Some, Err, inl, inr, refl, sym, ap, ◌∙◌}
+use Rattle.std.proofs.Common.{◌≡◌, ℕ, List, Some, Err, inl, inr, refl, sym, ap, ◌∙◌}
 use Rattle.std.proofs.lemmas.List.{append-nil}
 use Rattle.xp_base.specs.Causes.{Rose, SinkCause, run_fault_of}
 use Rattle.xp_base.specs.declared.run_faults.RunFault.{RunFault}
@@ -8,7 +8,7 @@ use Rattle.xp_base.specs.declared.sinks.SinkError.{SinkError}
 use Rattle.xp_base.specs.declared.sinks.SinkError.TheVariants as sink
 use Rattle.xpcall_run.specs.declared.failures.Failure.{Failure}
 use Rattle.xpcall_run.specs.declared.failures.Failure.TheVariants.{CannotRead, CannotWrite, OutOfMemory, Refused}
-use Rattle.xpcall_run.specs.Endings.{HasBegun, IsFirst, Stops}
+use Rattle.xpcall_run.specs.Endings.{IsFirst, Stops}
 use Rattle.xpcall_run.specs.FailureText.{output_failure}
 use Rattle.xpcall_run.specs.Sides.{Reads, Side, GotNothing, GotPrefix, HasFailed}
 use Rattle.xpcall_run.specs.Works.{Work, Written}

@@ -1,8 +1,13 @@
 pub mod CallLaws
+pub mod ClosureLaws
 pub mod CommandLaws
 pub mod CompileLaws
+pub mod CompileStops
+pub mod CompiledLaws
 pub mod Ending
 pub mod Fetching
 pub mod Firsts
 pub mod Outcomes
 pub mod RunLaws
+pub mod TextLaws
+pub mod TypelibLaws

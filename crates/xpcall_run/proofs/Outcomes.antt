@@ -1,9 +1,7 @@
 -- A work comes to one outcome over told files.
-use Rattle.std.proofs.Common.{◌≡◌, ◌⊎◌, ℕ, ◌<◌, ◌≤◌, List, length, Option, Some, None, inl, inr, refl, sym, ap, ◌∙◌, subst, arith}
-use Rattle.xp_base.specs.Files.{Files, file_in}
-use Rattle.xpcall_run.specs.declared.failures.FileFault.TheVariants.{Missing, TooLong}
+use Rattle.std.proofs.Common.{◌≡◌, ℕ, ◌≤◌, List, length, Option, Some, None, inl, inr, refl, sym, ap, ◌∙◌, subst, arith}
+use Rattle.xp_base.specs.Files.{Files}
 use Rattle.xpcall_run.specs.declared.failures.Refusal.{Refusal}
-use Rattle.xpcall_run.specs.declared.failures.Refusal.TheVariants.{OfFile}
 use Rattle.xpcall_run.specs.Works.{Work, Outcome, Written, Denied, Finds, Settles, Takes, TakesFound, settles, takes}
 
 -- over these files the work comes to one outcome

@@ -1,13 +1,13 @@
 -- What follows from how a run ends.
-use Rattle.std.proofs.Common.{◌≡◌, ◌⊎◌, ℕ, ◌<◌, List, Option, inl, inr, refl, sym, ap, subst, ◌∙◌, arith}
+use Rattle.std.proofs.Common.{◌≡◌, ◌⊎◌, ℕ, ◌<◌, List, inl, inr, refl, sym, ap, subst, ◌∙◌, arith}
 use Rattle.xpcall_run.specs.declared.failures.Failure.{Failure}
 use Rattle.xpcall_run.specs.declared.failures.Failure.TheVariants.{CannotRead, CannotWrite, OutOfMemory, Refused}
 use Rattle.xpcall_run.specs.declared.failures.Refusal.{Refusal}
-use Rattle.xpcall_run.specs.Endings.{Ends, HasBegun, HasDone, HasStopped, HasWritten, IsFirst, IsKept}
-use Rattle.xpcall_run.specs.FailureText.{failure_text, refusal_status, status_of}
+use Rattle.xpcall_run.specs.Endings.{Ends, HasBegun, HasWritten, IsFirst, IsKept}
+use Rattle.xpcall_run.specs.FailureText.{refusal_status, status_of}
 use Rattle.xpcall_run.specs.Headline.{Denies, Gives, IsCutShort, IsStatus, NoneFailed}
 use Rattle.xpcall_run.specs.Sides.{Reads, Side, Got, GotNothing, GotPrefix, HasFailed, HasUnread}
-use Rattle.xpcall_run.specs.Works.{Work, Outcome, Written, Denied}
+use Rattle.xpcall_run.specs.Works.{Work, Written, Denied}
 use Rattle.xpcall_run.proofs.Ending.{LeavesStatus, leaves_known, leaves_positive, nothing_is_prefix, report_begun, report_leaves}
 use Rattle.xpcall_run.proofs.Outcomes.{Settled}
 

@@ -11,9 +11,10 @@ use Rattle.call_scripts.specs.declared.error.ScriptError.TheVariants as script
 use Rattle.call_scripts.specs.declared.script.Script as spelled
 use Rattle.script_run.specs.ThinScripts.{BlamesThin, IsThinScript}
 use Rattle.script_run.specs.Transcript.{static}
-use Rattle.xpcall_run.specs.declared.failures.FileFault.TheVariants.{Typelib, Script}
+use Rattle.xpcall_run.specs.declared.failures.FileFault.TheVariants.{Form, Script}
 use Rattle.xpcall_run.specs.declared.failures.Refusal.{Refusal}
 use Rattle.xpcall_run.specs.declared.failures.Refusal.TheVariants.{OfFile}
+use Rattle.xpcall_run.specs.TypelibWork.{RefusesTypelib}
 use Rattle.xpcall_run.specs.Works.{Work, Finds, settles, takes}
 
 -- the bytes denote this library, and it is thin
@@ -34,9 +35,17 @@ pub record WritesCalls (typelib_bytes script_bytes text : List ℕ) : Type 0 whe
   pub spelled : IsThinScript script_bytes script
   pub transcript : text ≡ static (table_of lib) SysV64 script.lines
 
--- the typelib of this name is refused: its bytes denote no thin library
-abbrev pub RefusesTypelib : (name bytes : List ℕ) → Refusal → Type 0
-RefusesTypelib name bytes refusal = ¬ HasThinLibrary bytes × (refusal ≡ OfFile name Typelib)
+-- the typelib of this name is refused: its bytes denote a library that is not thin
+pub record RefusesForm (name bytes : List ℕ) (refusal : Refusal) : Type 0 where
+  pub lib : Library
+  pub denoted : Denotes bytes lib
+  pub not_thin : ¬ IsThin lib
+  pub named : refusal ≡ OfFile name Form
+
+-- its bytes denote no library, or one that is not thin
+abbrev pub RefusesAsThin : (name bytes : List ℕ) → Refusal → Type 0
+RefusesAsThin name bytes refusal =
+    RefusesTypelib name bytes refusal ⊎ RefusesForm name bytes refusal
 
 -- the script of this name is refused: this line of its bytes is the first that is no thin line
 abbrev pub RefusesScript : (name bytes : List ℕ) → Refusal → Type 0
@@ -46,7 +55,7 @@ RefusesScript name bytes refusal =
 -- the typelib is refused; or it is not, and the script is
 abbrev pub RefusesCalls : (typelib script typelib_bytes script_bytes : List ℕ) → Refusal → Type 0
 RefusesCalls typelib script typelib_bytes script_bytes refusal =
-    RefusesTypelib typelib typelib_bytes refusal
+    RefusesAsThin typelib typelib_bytes refusal
     ⊎ (HasThinLibrary typelib_bytes × RefusesScript script script_bytes refusal)
 
 -- what is done with the bytes of the typelib and of the script of these names

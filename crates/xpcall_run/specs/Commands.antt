@@ -1,11 +1,13 @@
 -- Which words are a command, and which; and the work that each command is.
-use Rattle.std.specs.Prelude.{◌≡◌, ℕ, Bool, ◌&&◌, nat_le, List, [], ◌∷◌, length, map, Option, Some, None, codes, if◌then◌else◌, String, string_bytes}
+use Rattle.std.specs.Prelude.{◌≡◌, ◌≤◌, ℕ, Bool, ◌&&◌, nat_le, List, [], ◌∷◌, length, map, Option, Some, None, codes, if◌then◌else◌, String, string_bytes}
+use Rattle.std.specs.List.{list_all}
 use Rattle.std.specs.Str.{bytes_eq}
 use Rattle.xpcall_run.specs.declared.commands.Command.{Command}
-use Rattle.xpcall_run.specs.declared.commands.Command.TheVariants.{Compile, Call}
+use Rattle.xpcall_run.specs.declared.commands.Command.TheVariants.{Compile, Dump, Call}
 use Rattle.xpcall_run.specs.declared.failures.Refusal.TheVariants.{Usage}
 use Rattle.xpcall_run.specs.CallWork.{call_work}
 use Rattle.xpcall_run.specs.CompileWork.{compile_work}
+use Rattle.xpcall_run.specs.TypelibWork.{dump_work}
 use Rattle.xpcall_run.specs.Works.{Work, settles}
 
 -- ---- the words
@@ -14,33 +16,52 @@ use Rattle.xpcall_run.specs.Works.{Work, settles}
 abbrev pub is_file_name : List ℕ → Bool
 is_file_name name = nat_le 1 (length name) && nat_le (length name) 255
 
--- `compile` and the name of a file
-abbrev pub compile_of : (verb name : List ℕ) → Option Command
-compile_of verb name =
-    if bytes_eq verb (codes "compile") && is_file_name name then Some (Compile name) else None
+-- 1 to 65,535 names of files
+abbrev pub are_roots : List (List ℕ) → Bool
+are_roots names =
+    nat_le 1 (length names) && nat_le (length names) 65535 && list_all is_file_name names
 
--- `call`, the word of the one convention so far, and the names of a typelib and a script
-abbrev pub call_of : (verb convention typelib script : List ℕ) → Option Command
-call_of verb convention typelib script =
-    if bytes_eq verb (codes "call") && bytes_eq convention (codes "sysv64")
-    && is_file_name typelib && is_file_name script
+-- behind `compile`, the names of the files that are compiled together
+abbrev pub compile_of : List (List ℕ) → Option Command
+compile_of names = if are_roots names then Some (Compile names) else None
+
+-- behind `dump`, the name of a typelib
+abbrev pub dump_of : List (List ℕ) → Option Command
+dump_of (name ∷ []) = if is_file_name name then Some (Dump name) else None
+dump_of _ = None
+
+-- behind `call`, the word of the one convention so far, and the names of a typelib and a script
+abbrev pub call_of : List (List ℕ) → Option Command
+call_of (convention ∷ typelib ∷ script ∷ []) =
+    if bytes_eq convention (codes "sysv64") && is_file_name typelib && is_file_name script
     then Some (Call typelib script)
     else None
+call_of _ = None
 
 -- the command that the words are
 abbrev pub command_of : List (List ℕ) → Option Command
-command_of (verb ∷ name ∷ []) = compile_of verb name
-command_of (verb ∷ convention ∷ typelib ∷ script ∷ []) = call_of verb convention typelib script
-command_of _ = None
+command_of [] = None
+command_of (verb ∷ words) =
+    if bytes_eq verb (codes "compile") then compile_of words
+    else if bytes_eq verb (codes "dump") then dump_of words
+    else if bytes_eq verb (codes "call") then call_of words
+    else None
 
 -- the command that the words of a command line are
 abbrev pub asked : {Z : Type 0} → List (String Z) → Option Command
 asked words = command_of (map string_bytes words)
 
+-- a command has at most 65,535 roots
+abbrev pub IsFit : Command → Type 0
+IsFit (Compile roots) = length roots ≤ 65535
+IsFit (Dump typelib) = Unit {0}
+IsFit (Call typelib script) = Unit {0}
+
 -- ---- the works
 
 abbrev pub command_work : Command → Work
-command_work (Compile name) = compile_work name
+command_work (Compile roots) = compile_work roots
+command_work (Dump typelib) = dump_work typelib
 command_work (Call typelib script) = call_work typelib script
 
 -- words that are no command are refused, and no file is asked for

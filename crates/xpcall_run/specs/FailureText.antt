@@ -4,7 +4,7 @@ use Rattle.xp_base.specs.Digits.{decimal_text}
 use Rattle.xp_base.specs.declared.run_faults.RunFault.{RunFault}
 use Rattle.xp_base.specs.declared.run_faults.RunFault.TheVariants as run
 use Rattle.xpcall_run.specs.declared.failures.FileFault.{FileFault}
-use Rattle.xpcall_run.specs.declared.failures.FileFault.TheVariants.{Missing, TooLong, Token, Syntax, Form, Typelib, Script}
+use Rattle.xpcall_run.specs.declared.failures.FileFault.TheVariants.{Missing, TooLong, Token, Syntax, Fault, Typelib, Form, Script}
 use Rattle.xpcall_run.specs.declared.failures.Refusal.{Refusal}
 use Rattle.xpcall_run.specs.declared.failures.Refusal.TheVariants.{Usage, OfFile, OfFiles}
 use Rattle.xpcall_run.specs.declared.failures.Failure.{Failure}
@@ -17,8 +17,9 @@ fault_status Missing = 6
 fault_status TooLong = 7
 fault_status (Token line) = 10
 fault_status (Syntax line) = 10
-fault_status Form = 10
-fault_status Typelib = 11
+fault_status (Fault code line) = 10
+fault_status (Typelib code place) = 11
+fault_status Form = 11
 fault_status (Script line) = 12
 
 abbrev pub refusal_status : Refusal → ℕ
@@ -45,19 +46,25 @@ usage = codes "usage: xpcall compile FILE... | dump XPT | call CONV XPT SCRIPT |
 abbrev pub at_line : (name : List ℕ) → (line : ℕ) → (said : List ℕ) → List ℕ
 at_line name line said = name ++ codes ":" ++ decimal_text (pos line) ++ said
 
+-- what is said of the fault of this code
+abbrev pub code_text : (code : ℕ) → List ℕ
+code_text code = codes "fault " ++ decimal_text (pos code)
+
+-- a name, and what is said of the fault of this code at this place of a typelib
+abbrev pub typelib_text : (name : List ℕ) → (code place : ℕ) → List ℕ
+typelib_text name code place =
+    name ++ codes ": typelib " ++ code_text code ++ codes " at " ++ decimal_text (pos place)
+
 -- what is said of the file of this name that has this fault
 abbrev pub fault_text : (name : List ℕ) → FileFault → List ℕ
 fault_text name Missing = codes "no file " ++ name
 fault_text name TooLong = codes "too long " ++ name
 fault_text name (Token line) = at_line name line (codes ": token")
 fault_text name (Syntax line) = at_line name line (codes ": syntax")
+fault_text name (Fault code line) = at_line name line (codes ": " ++ code_text code)
+fault_text name (Typelib code place) = typelib_text name code place
 fault_text name Form = name ++ codes ": form"
-fault_text name Typelib = name ++ codes ": form"
 fault_text name (Script line) = at_line name line (codes ": script")
-
--- what is said of files that have the fault of this code together
-abbrev pub code_text : (code : ℕ) → List ℕ
-code_text code = codes "fault " ++ decimal_text (pos code)
 
 abbrev pub refusal_text : Refusal → List ℕ
 refusal_text Usage = usage

@@ -1,8 +1,11 @@
 pub mod CallWork
+pub mod ClosureWork
 pub mod Commands
 pub mod CompileWork
+pub mod Compiled
 pub mod Endings
 pub mod FailureText
 pub mod Headline
 pub mod Sides
+pub mod TypelibWork
 pub mod Works

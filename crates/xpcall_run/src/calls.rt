@@ -2,12 +2,13 @@
 
 ghost use Rattle.std.specs.Prelude.{◌≡◌, ◌≤◌, IfErr, IfOk, OnOk, length};
 ghost use Rattle.script_run.specs.ThinScripts.{IsThinScript};
-ghost use Rattle.xpcall_run.specs.CallWork.{DenotesThin, HasBoth, RefusesScript, RefusesTypelib, call_work};
+ghost use Rattle.xpcall_run.specs.CallWork.{DenotesThin, HasBoth, RefusesAsThin, RefusesScript, call_work};
 ghost use Rattle.xpcall_run.specs.Endings.{HasWritten, IsFirst, IsRefused, Stops};
 ghost use Rattle.xpcall_run.specs.Sides.{reads_of, side_of};
 
 use crate::failures::{Failure, FileFault};
 use crate::fetches::fetch;
+use crate::typelibs::read_typelib;
 use call_scripts::{Script, ScriptError};
 use descriptor_reader::Typelib;
 use script_run::{read_thin, run_thin};
@@ -67,13 +68,11 @@ fn fetch_both<S: Source>(
 fn thin_library<'a>(alloc: Global, name: &Bytes, bytes: &'a [u8]) -> Result<Typelib<'a>, Failure>
     requires { length bytes.now ≤ MAX_TYPELIB }
     ensures ok { IfOk result (λ lib. DenotesThin bytes.now lib) }
-    ensures err { IfErr result (IsRefused (RefusesTypelib name.now bytes.now)) }
+    ensures err { IfErr result (IsRefused (RefusesAsThin name.now bytes.now)) }
 {
-    let Ok(lib) = Typelib::check(bytes) else {
-        return Err(Failure::of_file(alloc, name, FileFault::Typelib));
-    };
+    let lib = read_typelib(alloc, name, bytes)?;
     if !lib.thin() {
-        return Err(Failure::of_file(alloc, name, FileFault::Typelib));
+        return Err(Failure::of_file(alloc, name, FileFault::Form));
     }
     Ok(lib)
 }

@@ -28,10 +28,12 @@ pub enum FileFault {
     /// The text's tokens are no IDL file. This is the line of the first one that cannot go on, or
     /// of the last one where more would have to follow it.
     Syntax { line: u32 },
-    /// The text is an IDL file of a form that can't be compiled yet.
+    /// What is declared on this line has the fault of this code, 1 to 16.
+    Fault { code: u8, line: u32 },
+    /// The bytes are no typelib. Their first fault has this code, and this place in the file.
+    Typelib { code: u8, at: u64 },
+    /// The bytes are a typelib whose calls can't be made yet.
     Form,
-    /// The bytes are no typelib, or one whose calls can't be made yet.
-    Typelib,
     /// This is the first line that is no line of a script, or one that can't be run yet.
     Script { line: u32 },
 }
@@ -95,8 +97,8 @@ impl FileFault {
         match self {
             FileFault::Missing => 6,
             FileFault::TooLong => 7,
-            FileFault::Token { .. } | FileFault::Syntax { .. } | FileFault::Form => 10,
-            FileFault::Typelib => 11,
+            FileFault::Token { .. } | FileFault::Syntax { .. } | FileFault::Fault { .. } => 10,
+            FileFault::Typelib { .. } | FileFault::Form => 11,
             FileFault::Script { .. } => 12,
         }
     }

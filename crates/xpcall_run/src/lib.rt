@@ -5,10 +5,13 @@
 mod calls;
 mod commands;
 mod compiles;
+mod dumps;
 mod failures;
 mod fetches;
+mod places;
 mod reports;
 mod running;
+mod typelibs;
 
 pub use commands::Command;
 pub use failures::{Failure, FileFault, OUT_OF_MEMORY, Refusal};

@@ -1,18 +1,19 @@
 //! The report of a failure.
 
-ghost use Rattle.std.specs.Prelude.{◌≡◌, ◌≤◌, ◌++◌, OnErr, OnOk};
+ghost use Rattle.std.specs.Prelude.{◌≡◌, ◌≤◌, ◌++◌, IfOk, OnErr, OnOk, [], ◌∷◌, codes, pos};
 ghost use Rattle.xp_base.specs.Causes.{SinkCause};
+ghost use Rattle.xp_base.specs.Digits.{decimal_text};
 ghost use Rattle.xp_base.specs.Written.{Gained, GainedPrefix};
 ghost use Rattle.xpcall_run.specs.Endings.{Reports};
-ghost use Rattle.xpcall_run.specs.FailureText.{at_line, code_text, failure_text, fault_text, line_of, refusal_text};
+ghost use Rattle.xpcall_run.specs.FailureText.{at_line, code_text, failure_text, fault_text, line_of, refusal_text, typelib_text};
 ghost use Rattle.xpcall_run.specs.Sides.{side_of};
 
 use crate::failures::{CANNOT_WRITE, Failure, FileFault, OUT_OF_MEMORY, Refusal};
 use std::alloc::Global;
-use xp_base::{Bytes, Sink, SinkError, dec_text, put_all};
+use xp_base::{Bytes, Memory, Sink, SinkError, dec_text, put_all};
 
-/// Writes the failure's text to `err` and gives the status to end with: the failure's own, or 4 where
-/// the text could not be written, or 5 where there was no memory for it.
+/// Writes the failure's text to `err` and gives the status to end with: the failure's own, or 4
+/// where the text could not be written, or 5 where there was no memory for it.
 pub fn report<E: Sink>(alloc: Global, failure: &Failure, err: &mut E) -> u8
     ensures { Reports failure.now (side_of E.written E.faults err.old err.new) result }
 {
@@ -88,9 +89,71 @@ fn put_fault<E: Sink>(
         FileFault::TooLong => put_framed(alloc, b"too long ", name, b"\n", err),
         FileFault::Token { line } => put_numbered(alloc, name, line, b": token\n", err),
         FileFault::Syntax { line } => put_numbered(alloc, name, line, b": syntax\n", err),
-        FileFault::Form | FileFault::Typelib => put_framed(alloc, b"", name, b": form\n", err),
+        FileFault::Fault { code, line } => put_coded(alloc, name, line, code, err),
+        FileFault::Typelib { code, at } => put_typelib_fault(alloc, name, code, at, err),
+        FileFault::Form => put_framed(alloc, b"", name, b": form\n", err),
         FileFault::Script { line } => put_numbered(alloc, name, line, b": script\n", err),
     }
+}
+
+/// What is said of the fault of this code behind its line, to the end of the line.
+fn coded_words(alloc: Global, code: u8) -> Result<Bytes, Memory>
+    ensures { IfOk result (λ said. said ≡ codes ": " ++ code_text code ++ 10 ∷ []) }
+{
+    let mut said = Bytes::copy(alloc, b": fault ")?;
+    said.append(dec_text(alloc, i128::from(code))?.as_slice())?;
+    said.append(b"\n")?;
+    Ok(said)
+}
+
+/// Puts what is said of the file `name` that has the fault of this code on this line, a line.
+fn put_coded<E: Sink>(
+    alloc: Global,
+    name: &Bytes,
+    line: u32,
+    code: u8,
+    err: &mut E,
+) -> Result<(), SinkError>
+    ensures ok { OnOk result (Gained (E.written err.old) (E.written err.new)
+        (line_of (at_line name.now line (codes ": " ++ code_text code)))) }
+    ensures err { OnErr result (GainedPrefix (E.written err.old) (E.written err.new)
+        (line_of (at_line name.now line (codes ": " ++ code_text code)))) }
+    ensures cause { SinkCause (E.faults err.old) (E.faults err.new) result }
+{
+    let said = coded_words(alloc, code)?;
+    put_numbered(alloc, name, line, said.as_slice(), err)
+}
+
+/// What is said of a typelib whose first fault has this code and place, to the end of the line.
+fn typelib_words(alloc: Global, code: u8, at: u64) -> Result<Bytes, Memory>
+    ensures { IfOk result (λ said.
+        said ≡ codes ": typelib " ++ code_text code ++ codes " at "
+        ++ decimal_text (pos at) ++ 10 ∷ []) }
+{
+    let mut said = Bytes::copy(alloc, b": typelib fault ")?;
+    said.append(dec_text(alloc, i128::from(code))?.as_slice())?;
+    said.append(b" at ")?;
+    said.append(dec_text(alloc, i128::from(at))?.as_slice())?;
+    said.append(b"\n")?;
+    Ok(said)
+}
+
+/// Puts what is said of the typelib `name` whose first fault has this code and place, a line.
+fn put_typelib_fault<E: Sink>(
+    alloc: Global,
+    name: &Bytes,
+    code: u8,
+    at: u64,
+    err: &mut E,
+) -> Result<(), SinkError>
+    ensures ok { OnOk result (Gained (E.written err.old) (E.written err.new)
+        (line_of (typelib_text name.now code at))) }
+    ensures err { OnErr result (GainedPrefix (E.written err.old) (E.written err.new)
+        (line_of (typelib_text name.now code at))) }
+    ensures cause { SinkCause (E.faults err.old) (E.faults err.new) result }
+{
+    let said = typelib_words(alloc, code, at)?;
+    put_framed(alloc, b"", name, said.as_slice(), err)
 }
 
 /// Puts a name with what stands before and behind it, in one piece.

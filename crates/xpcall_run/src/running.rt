@@ -1,7 +1,8 @@
 //! The top call.
 
 ghost use Rattle.std.specs.Prelude.{◌≡◌, ◌⊎◌, List, ℕ, None, IfErr, OnOk};
-ghost use Rattle.xpcall_run.specs.Commands.{asked, command_work, work_of};
+ghost use Rattle.xpcall_run.specs.Commands.{IsFit, asked, command_work, work_of};
+ghost use Rattle.xpcall_run.specs.Compiled.{IsCompiled, IsCompiledBy};
 ghost use Rattle.xpcall_run.specs.Endings.{Ends, HasWritten, IsFirst};
 ghost use Rattle.xpcall_run.specs.Headline.{ComesTo, Denies, Gives, IsCutShort, IsKnown, IsPlain, IsReported, IsStatus, IsUnwritten, IsUsage, NoneFailed};
 ghost use Rattle.xpcall_run.specs.Sides.{GotNothing, reads_of, side_of};
@@ -11,6 +12,7 @@ ghost use Rattle.xpcall_run.specs.declared.failures.Refusal.{Refusal as Refusals
 use crate::calls::call;
 use crate::commands::{Command, read_command};
 use crate::compiles::compile;
+use crate::dumps::dump;
 use crate::failures::{Failure, Refusal};
 use crate::reports::report;
 use std::alloc::Global;
@@ -28,6 +30,8 @@ fn work<S: Source, O: Sink>(
     ensures err { IfErr result (IsFirst (work_of (asked words.now))
         (reads_of S.files S.faults files.old files.new)
         (side_of O.written O.faults out.old out.new)) }
+    ensures compiled { OnOk result (IsCompiledBy (asked words.now) (S.files files.old)
+        (side_of O.written O.faults out.old out.new)) }
     ensures same_files { S.files files.new ≡ S.files files.old }
 {
     let Some(command) = read_command(alloc, words)? else {
@@ -43,15 +47,19 @@ fn obey<S: Source, O: Sink>(
     files: &mut S,
     out: &mut O,
 ) -> Result<(), Failure>
+    requires { IsFit command.now }
     ensures ok { OnOk result (HasWritten (command_work command.now) (S.files files.old)
         (side_of O.written O.faults out.old out.new)) }
     ensures err { IfErr result (IsFirst (command_work command.now)
         (reads_of S.files S.faults files.old files.new)
         (side_of O.written O.faults out.old out.new)) }
+    ensures compiled { OnOk result (IsCompiled command.now (S.files files.old)
+        (side_of O.written O.faults out.old out.new)) }
     ensures same_files { S.files files.new ≡ S.files files.old }
 {
     match command {
-        Command::Compile(name) => compile(alloc, name, files, out),
+        Command::Compile(roots) => compile(alloc, roots, files, out),
+        Command::Dump(typelib) => dump(alloc, typelib, files, out),
         Command::Call { typelib, script } => call(alloc, typelib, script, files, out),
     }
 }
@@ -68,6 +76,8 @@ fn work_and_report<S: Source, O: Sink, E: Sink>(
         (reads_of S.files S.faults files.old files.new)
         (side_of O.written O.faults out.old out.new)
         (side_of E.written E.faults err.old err.new) result }
+    ensures compiled { result ≡ 0 → IsCompiledBy (asked words.now) (S.files files.old)
+        (side_of O.written O.faults out.old out.new) }
     ensures same_files { S.files files.new ≡ S.files files.old }
 {
     match work(alloc, words, files, out) {
@@ -101,6 +111,11 @@ pub fn run<S: Source, O: Sink, E: Sink>(
         → Denies result (reads_of S.files S.faults files.old files.new)
         (side_of O.written O.faults out.old out.new)
         (side_of E.written E.faults err.old err.new) refusal }
+
+    // A typelib that `compile` wrote stands for what the files declare: it denotes their library,
+    // whose table is that of their interfaces and members as written.
+    ensures compiled { result ≡ 0 → IsCompiledBy (asked words.now) (S.files files.old)
+        (side_of O.written O.faults out.old out.new) }
 
     // Words that are no command are refused whatever the source is, which is not asked.
     ensures usage { asked words.now ≡ None

@@ -25,29 +25,63 @@ refused range 0
 refused no name
 ";
 
+const UNKNOWN_LINE: &[u8] = b"object o nsIA\njump\n";
+
+/// A typelib, a script on it, and what is to come of the run.
+const SCRIPTS: [Run<'static>; 4] = [
+    Run {
+        name: "a call",
+        words: CALL,
+        files: &[("a.xpt", &TYPELIB), ("s.txt", CALL_OF_ONE)],
+        status: 0,
+        out: TRANSCRIPT_OF_ONE,
+        err: b"",
+    },
+    Run {
+        name: "refused calls",
+        words: CALL,
+        files: &[("a.xpt", &TYPELIB), ("s.txt", REFUSED_CALLS)],
+        status: 0,
+        out: TRANSCRIPT_OF_REFUSED_CALLS,
+        err: b"",
+    },
+    Run {
+        name: "no line",
+        words: CALL,
+        files: &[("a.xpt", &TYPELIB), ("s.txt", b"")],
+        status: 0,
+        out: b"",
+        err: b"",
+    },
+    Run {
+        name: "a line with no reading",
+        words: CALL,
+        files: &[("a.xpt", &TYPELIB), ("s.txt", UNKNOWN_LINE)],
+        status: 12,
+        out: b"",
+        err: b"s.txt:2: script\n",
+    },
+];
+
 #[test]
 fn scripts_are_run_or_refused(rt: HostRuntime) -> Result<(), Fail> {
-    let whole = TYPELIB.as_slice();
-    let short = &TYPELIB[..87];
-    let unknown = b"object o nsIA\njump\n".as_slice();
-    for (typelib, script, status, out, err) in [
-        (whole, CALL_OF_ONE, 0, TRANSCRIPT_OF_ONE, b"".as_slice()),
-        (whole, REFUSED_CALLS, 0, TRANSCRIPT_OF_REFUSED_CALLS, b""),
-        (whole, b"", 0, b"", b""),
-        (whole, unknown, 12, b"", b"s.txt:2: script\n"),
-        (short, unknown, 11, b"", b"a.xpt: form\n"),
-    ] {
-        let run = Run {
-            name: str::from_utf8(script)?,
-            words: CALL,
-            files: &[("a.xpt", typelib), ("s.txt", script)],
-            status,
-            out,
-            err,
-        };
-        check(&rt, rt.alloc(), &run)?;
+    for run in &SCRIPTS {
+        check(&rt, rt.alloc(), run)?;
     }
     Ok(())
+}
+
+#[test]
+fn a_typelib_that_is_cut_is_refused(rt: HostRuntime) -> Result<(), Fail> {
+    let run = Run {
+        name: "a typelib that lacks its last byte",
+        words: CALL,
+        files: &[("a.xpt", &TYPELIB[..87]), ("s.txt", UNKNOWN_LINE)],
+        status: 11,
+        out: b"",
+        err: b"a.xpt: typelib fault 4 at 20\n",
+    };
+    check(&rt, rt.alloc(), &run)
 }
 
 #[test]

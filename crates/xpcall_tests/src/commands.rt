@@ -7,18 +7,21 @@ use std::test::Fail;
 const USAGE: &[u8] = b"usage: xpcall compile FILE... | dump XPT | call CONV XPT SCRIPT | big N\n";
 
 /// Words that are no command.
-const UNKNOWN: [&[&str]; 4] = [
-    &["call", "vax", "a", "b"],
-    &["call", "sysv64", "a", ""],
-    &["compile"],
-    &["compile", ""],
+const UNKNOWN: [(&str, &[&str]); 7] = [
+    ("a convention that is none", &["call", "vax", "a", "b"]),
+    ("an empty name", &["call", "sysv64", "a", ""]),
+    ("no file", &["compile"]),
+    ("an empty file name", &["compile", ""]),
+    ("an empty second name", &["compile", "a", ""]),
+    ("no typelib", &["dump"]),
+    ("two typelibs", &["dump", "a", "b"]),
 ];
 
 #[test]
 fn words_are_refused(rt: HostRuntime) -> Result<(), Fail> {
-    for words in UNKNOWN {
+    for (name, words) in &UNKNOWN {
         let run = Run {
-            name: "words that are no command",
+            name,
             words,
             files: &[],
             status: 2,

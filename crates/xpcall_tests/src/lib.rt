@@ -9,6 +9,8 @@ mod commands;
 #[cfg(test)]
 mod compiles;
 #[cfg(test)]
+mod dumps;
+#[cfg(test)]
 mod faults;
 #[cfg(test)]
 mod files;

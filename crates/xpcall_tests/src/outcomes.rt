@@ -17,6 +17,9 @@ pub struct Run<'a> {
     pub err: &'a [u8],
 }
 
+/// A status, an output and an error output.
+pub type Outcome<'a> = (u8, &'a [u8], &'a [u8]);
+
 /// The words of a command line.
 fn owned(alloc: Global, words: &[&str]) -> Result<Vec<String>, AllocError> {
     let mut list = Vec::new(alloc);
@@ -26,6 +29,15 @@ fn owned(alloc: Global, words: &[&str]) -> Result<Vec<String>, AllocError> {
     Ok(list)
 }
 
+/// A source of these files.
+fn source_of(alloc: Global, files: &[(&str, &[u8])]) -> Result<CalmSource, Memory> {
+    let mut source = CalmSource::new(alloc);
+    for (name, bytes) in files {
+        source.add(name.as_bytes(), *bytes)?;
+    }
+    Ok(source)
+}
+
 /// The status of a run of these words over these files, the output and the error output.
 pub fn outcome(
     alloc: Global,
@@ -33,23 +45,23 @@ pub fn outcome(
     files: &[(&str, &[u8])],
 ) -> Result<(u8, CalmSink, CalmSink), Fail> {
     let words = owned(alloc, words)?;
-    let mut source = CalmSource::new(alloc);
-    for (name, bytes) in files {
-        source.add(name.as_bytes(), *bytes)?;
-    }
+    let mut source = source_of(alloc, files)?;
     let mut out = CalmSink::new(alloc);
     let mut err = CalmSink::new(alloc);
     let status = run(alloc, words.as_slice(), &mut source, &mut out, &mut err);
     Ok((status, out, err))
 }
 
+/// What came of the run of this name is what was to come of it.
+pub fn same(rt: &impl Abort, name: &str, found: Outcome<'_>, wanted: Outcome<'_>) {
+    assert_eq!(rt; found, wanted, "at {name}");
+}
+
 /// The run comes to what it is to come to.
 pub fn check(rt: &impl Abort, alloc: Global, run: &Run<'_>) -> Result<(), Fail> {
-    let name = run.name;
     let (status, out, err) = outcome(alloc, run.words, run.files)?;
-    assert_eq!(rt; err.written(), run.err, "at {name}");
-    assert_eq!(rt; out.written(), run.out, "at {name}");
-    assert_eq!(rt; status, run.status, "at {name}");
+    let found = (status, out.written(), err.written());
+    same(rt, run.name, found, (run.status, run.out, run.err));
     Ok(())
 }
 
@@ -66,20 +78,38 @@ fn failing(alloc: Global, call: u64) -> Result<List<u64>, Memory> {
     Ok(fails)
 }
 
-/// The same where calls fail, and each put takes one byte.
-pub fn failing_outcome(
-    alloc: Global,
-    words: &[&str],
-    files: &[(&str, &[u8])],
-    fails: Failing,
-) -> Result<(u8, MemSink, MemSink), Fail> {
-    let words = owned(alloc, words)?;
-    let mut source = MemSource::new(alloc, failing(alloc, fails[0])?);
+/// A source of these files, the fetch of this number of which fails.
+fn failing_source(alloc: Global, files: &[(&str, &[u8])], fetch: u64) -> Result<MemSource, Memory> {
+    let mut source = MemSource::new(alloc, failing(alloc, fetch)?);
     for (name, bytes) in files {
         source.add(name.as_bytes(), *bytes)?;
     }
-    let mut out = MemSink::new(alloc, 1, failing(alloc, fails[1])?);
-    let mut err = MemSink::new(alloc, 1, failing(alloc, fails[2])?);
+    Ok(source)
+}
+
+/// A sink that takes one byte a put, the put of this number of which fails.
+fn failing_sink(alloc: Global, put: u64) -> Result<MemSink, Memory> {
+    Ok(MemSink::new(alloc, 1, failing(alloc, put)?))
+}
+
+/// The same run where calls fail, and each put takes one byte.
+pub fn check_failing(
+    rt: &impl Abort,
+    alloc: Global,
+    run_of: &Run<'_>,
+    fails: Failing,
+) -> Result<(), Fail> {
+    let words = owned(alloc, run_of.words)?;
+    let mut source = failing_source(alloc, run_of.files, fails[0])?;
+    let mut out = failing_sink(alloc, fails[1])?;
+    let mut err = failing_sink(alloc, fails[2])?;
     let status = run(alloc, words.as_slice(), &mut source, &mut out, &mut err);
-    Ok((status, out, err))
+    let found = (status, out.written(), err.written());
+    same(
+        rt,
+        run_of.name,
+        found,
+        (run_of.status, run_of.out, run_of.err),
+    );
+    Ok(())
 }

@@ -1,4 +1,0 @@
-pub mod Compiled
-pub mod ThinLaws
-pub mod ThinLibrary
-pub mod TreeLaws

@@ -1,0 +1,178 @@
+//! The command `dump`.
+
+use crate::compiles::{FIRST_OF_TWO, SECOND_OF_TWO};
+use crate::files::TYPELIB;
+use crate::outcomes::{Run, check, outcome};
+use std::test::Fail;
+
+const DUMP: &[&str] = &["dump", "a.xpt"];
+
+const LISTING: &[u8] = b"\
+typelib 1.2 1
+interface 1 nsIA 00000001-0002-0003-0405-060708090a0b parent 0 slots 0 1 flags -
+slot 0 method f - in:int32
+";
+
+/// The same typelib with its parts in another order: the pool has the descriptor first.
+const OTHERWISE: [u8; 88] = [
+    0x58, 0x50, 0x43, 0x4f, 0x4d, 0x0a, 0x54, 0x79, 0x70, 0x65, 0x4c, 0x69, 0x62, 0x0d, 0x0a, 0x1a,
+    0x01, 0x02, 0x00, 0x01, 0x00, 0x00, 0x00, 0x58, 0x00, 0x00, 0x00, 0x25, 0x00, 0x00, 0x00, 0x40,
+    0x80, 0x00, 0x00, 0x00, 0x00, 0x00, 0x00, 0x01, 0x00, 0x02, 0x00, 0x03, 0x04, 0x05, 0x06, 0x07,
+    0x08, 0x09, 0x0a, 0x0b, 0x00, 0x00, 0x00, 0x14, 0x00, 0x00, 0x00, 0x00, 0x00, 0x00, 0x00, 0x01,
+    0x00, 0x00, 0x00, 0x01, 0x00, 0x00, 0x00, 0x00, 0x12, 0x01, 0x80, 0x02, 0x00, 0x06, 0x00, 0x00,
+    0x00, 0x66, 0x00, 0x6e, 0x73, 0x49, 0x41, 0x00,
+];
+
+const SHORT: [u8; 22] = [
+    0x58, 0x50, 0x43, 0x4f, 0x4d, 0x0a, 0x54, 0x79, 0x70, 0x65, 0x4c, 0x69, 0x62, 0x0d, 0x0a, 0x1a,
+    0x01, 0x02, 0x00, 0x00, 0x00, 0x00,
+];
+
+/// Typelibs that are listed or refused.
+const DUMPS: [Run<'static>; 4] = [
+    Run {
+        name: "one method",
+        words: DUMP,
+        files: &[("a.xpt", &TYPELIB)],
+        status: 0,
+        out: LISTING,
+        err: b"",
+    },
+    Run {
+        name: "its parts in another order",
+        words: DUMP,
+        files: &[("a.xpt", &OTHERWISE)],
+        status: 0,
+        out: LISTING,
+        err: b"",
+    },
+    Run {
+        name: "too short for a header",
+        words: DUMP,
+        files: &[("a.xpt", &SHORT)],
+        status: 11,
+        out: b"",
+        err: b"a.xpt: typelib fault 1 at 22\n",
+    },
+    Run {
+        name: "no typelib",
+        words: DUMP,
+        files: &[],
+        status: 6,
+        out: b"",
+        err: b"no file a.xpt\n",
+    },
+];
+
+#[test]
+fn typelibs_are_listed_or_refused(rt: HostRuntime) -> Result<(), Fail> {
+    for run in &DUMPS {
+        check(&rt, rt.alloc(), run)?;
+    }
+    Ok(())
+}
+
+#[test]
+fn a_typelib_that_is_cut_has_a_fault(rt: HostRuntime) -> Result<(), Fail> {
+    let run = Run {
+        name: "a typelib that lacks its last byte",
+        words: DUMP,
+        files: &[("a.xpt", &TYPELIB[..87])],
+        status: 11,
+        out: b"",
+        err: b"a.xpt: typelib fault 4 at 20\n",
+    };
+    check(&rt, rt.alloc(), &run)
+}
+
+const SUPPORTS: &[u8] = b"\
+typedef unsigned long nsrefcnt;
+native size_t(size_t);
+[ref, nsid] native nsIIDRef(nsIID);
+[ptr] native nsQIResult(void);
+[ref, astring] native AString(ignored);
+[scriptable, uuid(00000000-0000-0000-c000-000000000046)]
+interface nsISupports {
+  void QueryInterface(in nsIIDRef uuid,
+                      [iid_is(uuid), retval] out nsQIResult result);
+  [noscript, notxpcom] nsrefcnt AddRef();
+  [noscript, notxpcom] nsrefcnt Release();
+};
+%{C++
+#include \"nsISupportsUtils.h\"
+%}
+";
+
+const INHERITING: &[u8] = b"#include \"nsISupports.idl\"
+[scriptable, uuid(00000001-0000-0000-c000-000000000046)]
+interface nsIN : nsISupports { readonly attribute long a; attribute long b; void c(); };";
+
+const INHERITED: &[u8] = b"\
+typelib 1.2 2
+interface 1 nsISupports 00000000-0000-0000-c000-000000000046 parent 0 slots 0 3 flags scriptable
+slot 0 method QueryInterface - in:nsid out+retval:iid_is(0)
+slot 1 method AddRef notxpcom,hidden
+slot 2 method Release notxpcom,hidden
+interface 2 nsIN 00000001-0000-0000-c000-000000000046 parent 1 slots 3 7 flags scriptable
+slot 3 get a - out+retval:int32
+slot 4 get b - out+retval:int32
+slot 5 set b - in:int32
+slot 6 method c -
+";
+
+const CONSTANT: &[u8] = b"[uuid(00000001-0000-0000-0000-000000000000)] \
+    interface nsIK { const short k = 1 << 3 | 4 + 2 * 3; };";
+
+const LISTED_CONSTANT: &[u8] = b"\
+typelib 1.2 1
+interface 1 nsIK 00000001-0000-0000-0000-000000000000 parent 0 slots 0 0 flags -
+const k int16 10
+";
+
+const LISTING_OF_TWO: &[u8] = b"\
+typelib 1.2 3
+interface 1 nsIX 00000000-0000-0000-0000-000000000000 unresolved
+interface 2 nsIB 00000001-0000-0000-0000-000000000000 parent 0 slots 0 1 flags -
+slot 0 method f - in:interface(3) in:interface(1)
+interface 3 nsIA 00000002-0000-0000-0000-000000000000 parent 2 slots 1 1 flags -
+";
+
+/// A file p.idl and another one with its name, and the listing of the typelib of the first.
+const LISTED: [(&str, &[u8], (&str, &[u8]), &[u8]); 3] = [
+    (
+        "an interface with a parent",
+        INHERITING,
+        ("nsISupports.idl", SUPPORTS),
+        INHERITED,
+    ),
+    (
+        "a constant",
+        CONSTANT,
+        ("q.idl", SECOND_OF_TWO),
+        LISTED_CONSTANT,
+    ),
+    (
+        "two files that include one another",
+        FIRST_OF_TWO,
+        ("q.idl", SECOND_OF_TWO),
+        LISTING_OF_TWO,
+    ),
+];
+
+#[test]
+fn compiled_typelibs_are_listed(rt: HostRuntime) -> Result<(), Fail> {
+    for (name, text, other, listing) in &LISTED {
+        let files = [("p.idl", *text), *other];
+        let (_, typelib, _) = outcome(rt.alloc(), &["compile", "p.idl"], &files)?;
+        let run = Run {
+            name,
+            words: DUMP,
+            files: &[("a.xpt", typelib.written())],
+            status: 0,
+            out: listing,
+            err: b"",
+        };
+        check(&rt, rt.alloc(), &run)?;
+    }
+    Ok(())
+}
