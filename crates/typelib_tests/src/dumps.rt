@@ -1,7 +1,8 @@
 //! Listings, worked out by hand from what typelibs say.
 
 use descriptor_reader::Typelib;
-use dump_text::{dump, escaped};
+use dump_text::dump;
+use printed_names::escaped;
 use std::alloc::Global;
 use std::test::Fail;
 use xp_base::{CalmSink, List, MAX_TYPELIB, MemSink, RunFault};
