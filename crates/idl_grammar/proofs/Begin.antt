@@ -1,7 +1,7 @@
 -- How readings and prefix forms begin.
 use Rattle.std.proofs.Common.{◌≡◌, Bool, true, false, ◌&&◌, ◌||◌, inl, inr, List, [], ◌∷◌, ◌++◌, refl, sym, ◌∙◌, subst, append-nil}
-use Rattle.idl_grammar.specs.Terminals.{Lexeme, fits}
-use Rattle.idl_grammar.specs.Rule.{Rule, token, nothing, map, both, or, many, lined, Each, Reads, Begins}
+use Rattle.idl_grammar.specs.Terminals.{Lexeme, fits, symbol_of}
+use Rattle.idl_grammar.specs.Rule.{Rule, token, parted, nothing, map, both, or, many, lined, Each, Reads, Begins}
 use Rattle.idl_grammar.specs.Read.{has, when, is_nullable, starts}
 use Rattle.idl_grammar.proofs.Sets.{has-left, has-right, has-when}
 
@@ -30,6 +30,7 @@ or-second false b e = e
 
 pub reads-nil : {A : Type 0} (r : Rule A) (ts : List Lexeme) (a : A) → ts ≡ [] → Reads r ts a → is_nullable r ≡ true
 reads-nil (token symbol) ts a e h = let f = sym e ∙ h.1 in cc
+reads-nil (parted form) ts a e h = let f = sym e ∙ h.1 in cc
 reads-nil (nothing x) ts a e h = refl
 reads-nil (map f p) ts a e h = reads-nil p ts h.0 e h.1
 reads-nil (both p q) ts a e h =
@@ -48,6 +49,7 @@ reads-first r (t ∷ ts) a n h = (t, ts, refl)
 
 pub begins-nil : {A : Type 0} (r : Rule A) → Begins r []
 begins-nil (token symbol) = inl refl
+begins-nil (parted form) = inl refl
 begins-nil (nothing x) = refl
 begins-nil (map f p) = begins-nil p
 begins-nil (both p q) = inl (begins-nil p)
@@ -57,6 +59,7 @@ begins-nil (lined p) = begins-nil p
 
 pub reads-begins : {A : Type 0} (r : Rule A) (ts : List Lexeme) (a : A) → Reads r ts a → Begins r ts
 reads-begins (token symbol) ts a h = inr (a, h)
+reads-begins (parted form) ts a h = inr (a, h)
 reads-begins (nothing x) ts a h = h.0
 reads-begins (map f p) ts a h = reads-begins p ts h.0 h.1
 reads-begins (both p q) ts a h = inr (h.0, h.1, h.2, (a.0, h.3), reads-begins q h.1 a.1 h.4)
@@ -77,6 +80,8 @@ starts-each p begun (x ∷ xs) t ts us e h = of_first h.0 (sym e ∙ h.2) h.3 (�
 pub begins-starts : {A : Type 0} (r : Rule A) (t : Lexeme) (ts : List Lexeme) → Begins r (t ∷ ts) → has t (starts r) ≡ true
 begins-starts (token symbol) t ts (inl e) = cc
 begins-starts (token symbol) t ts (inr h) = let f = h.1.2 in or-first (fits t symbol) false (rw (same-head t h.1.0 ts [] h.1.1) f)
+begins-starts (parted form) t ts (inl e) = cc
+begins-starts (parted form) t ts (inr h) = let f = h.1.2 in or-first (fits t (symbol_of form)) false (rw (same-head t h.1.0 ts [] h.1.1) f)
 begins-starts (nothing x) t ts h = cc
 begins-starts (map f p) t ts h = begins-starts p t ts h
 begins-starts (both p q) t ts (inl h) = has-left t (starts p) (when (is_nullable p) (starts q)) (begins-starts p t ts h)

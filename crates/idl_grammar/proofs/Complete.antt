@@ -1,12 +1,14 @@
 -- Each reading of a predictive rule is what reading the rule gives, where the tokens behind it do not go on.
 use Rattle.std.proofs.Common.{◌≡◌, ◌≤◌, ℕ, zero, suc, Bool, true, false, not, cond, ◌⊎◌, inl, inr, List, [], ◌∷◌, ◌++◌, length, Ok, refl, sym, ◌∙◌, ap, subst, append_assoc, arith, length-append}
 use Rattle.idl_grammar.specs.declared.terminal.Terminal.{Terminal}
+use Rattle.idl_grammar.specs.Spellings.{Parted}
 use Rattle.idl_grammar.specs.Terminals.{Lexeme}
-use Rattle.idl_grammar.specs.Rule.{Rule, token, nothing, map, both, or, many, lined, line_of, Each, Reads, Begins}
+use Rattle.idl_grammar.specs.Rule.{Rule, token, parted, nothing, map, both, or, many, lined, line_of, Each, Reads, Begins}
 use Rattle.idl_grammar.specs.Read.{Outcome, pair, and_then, read_many, read, has, next_in, when, is_nullable, starts, goes_on, apart, is_predictive}
 use Rattle.idl_grammar.proofs.Symbols.{both_true, all_three, all_four, not_true}
 use Rattle.idl_grammar.proofs.Sets.{next-neither, next-when, apart-has}
 use Rattle.idl_grammar.proofs.Begin.{reads-nil, reads-first, reads-begins, begins-starts}
+use Rattle.idl_grammar.proofs.NativeLaws.{had-parts}
 
 -- the reading of these tokens is read, whatever follows that does not go on
 abbrev pub Complete : {A : Type 0} → Rule A → Type 0
@@ -20,6 +22,9 @@ follows p symbols (t ∷ v) rest h none first = apart-has t (goes_on p) symbols 
 
 complete-token : (symbol : Terminal) → Complete (token symbol)
 complete-token symbol ts a rest r n = rw (r.1, r.2, r.3) refl
+
+complete-parts : {A : Type 0} (form : Parted A) → Complete (parted form)
+complete-parts form ts a rest r n = let one = had-parts form r.0.text a r.3 in rw (r.1, r.2, one.0, one.1) refl
 
 complete-map : {A B : Type 0} (f : A → B) (p : Rule A) → Complete p → Complete (map f p)
 complete-map f p c ts b rest r n = rw (c ts r.0 rest r.1 n, r.2) refl
@@ -115,6 +120,7 @@ complete-many p e h c ts xs rest r n =
 
 pub complete : {A : Type 0} (r : Rule A) → is_predictive r ≡ true → Complete r
 complete (token symbol) h = complete-token symbol
+complete (parted form) h = complete-parts form
 complete (nothing x) h = λ ts a rest r n. rw (r.0, r.1) refl
 complete (map f p) h = complete-map f p (complete p h)
 complete (both p q) h =

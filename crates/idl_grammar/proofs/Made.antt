@@ -3,8 +3,9 @@ use Rattle.std.proofs.Common.{◌≡◌, ◌≤◌, ◌+◌, ℕ, true, false, L
 use Rattle.std.proofs.lemmas.List.Elements.{All-nil, All-cons}
 use Rattle.idl_lexer.specs.Spelling.{Spells}
 use Rattle.idl_grammar.specs.declared.terminal.Terminal.{Terminal}
+use Rattle.idl_grammar.specs.Spellings.{Parted, HasParts}
 use Rattle.idl_grammar.specs.Terminals.{Lexeme, fits}
-use Rattle.idl_grammar.specs.Rule.{Rule, token, nothing, map, both, or, many, lined, Each, Reads}
+use Rattle.idl_grammar.specs.Rule.{Rule, token, parted, nothing, map, both, or, many, lined, Each, Reads}
 use Rattle.idl_grammar.specs.Read.{is_nullable}
 use Rattle.idl_grammar.specs.Trees.{AreFew}
 use Rattle.idl_grammar.proofs.Counts.{each-count}
@@ -57,6 +58,9 @@ pub makes_token : {most : ℕ} {P : List ℕ → Type 0} (symbol : Terminal)
     → ((t : Lexeme) → IsSpelled t → fits t symbol ≡ true → P t.text) → Makes most (token symbol) P
 makes_token {P = P} symbol f =
     record { all = λ ts a s few reads. let here = subst AreSpelled reads.1 s in subst P (sym reads.3) (f reads.0 here.0 reads.2) }
+
+pub makes_parts : {A : Type 0} {most : ℕ} (form : Parted A) → Makes most (parted form) (λ parts. (spelling : List ℕ) × HasParts form spelling parts)
+makes_parts form = record { all = λ ts parts s few reads. (reads.0.text, reads.3) }
 
 pub makes_nothing : {A : Type 0} {most : ℕ} {P : A → Type 0} (x : A) → P x → Makes most (nothing x) P
 makes_nothing {P = P} x p = record { all = λ ts a s few reads. subst P (sym reads.1) p }

@@ -1,14 +1,18 @@
 -- What is kept of a native's spelling, and of an include's, is its parts.
-use Rattle.std.proofs.Common.{◌≡◌, inl, ℕ, true, List, [], ◌∷◌, ◌++◌, drop, refl, sym, ◌∙◌, ap, subst, append-nil, append_assoc, codes}
+use Rattle.std.proofs.Common.{◌≡◌, inl, ℕ, Bool, true, false, ◌&&◌, Err, List, [], ◌∷◌, ◌++◌, drop, refl, sym, ◌∙◌, ap, subst, append-nil, append_assoc, codes}
 use Rattle.std.specs.List.{list_all}
 use Rattle.idl_lexer.specs.declared.class.Class.TheVariants.{NameByte, Gap, Quoted, Parenthesized}
 use Rattle.idl_lexer.specs.Classes.{is_in, IsOver}
-use Rattle.idl_lexer.specs.Parts.{run, IsMadeOf, is_word, is_name}
-use Rattle.idl_lexer.specs.Reading.{front, behind}
+use Rattle.idl_lexer.specs.Parts.{run, literal, IsMadeOf, any, short, some, is_word, is_name}
+use Rattle.idl_lexer.specs.Reading.{front, behind, is_whole}
 use Rattle.idl_lexer.specs.Spelling.{IsWord, include, native}
 use Rattle.idl_lexer.proofs.ByteLaws.{gap-unnamed, named-no_gap}
+use Rattle.idl_lexer.proofs.KindLaws.{include-whole, whole-include, native-whole, whole-native}
 use Rattle.idl_lexer.proofs.PartLaws.{ends-over, front-whole, behind-whole}
-use Rattle.idl_grammar.specs.Spellings.{IsFileName, IsInclude, IsNative, IsNativeText, native_name, native_text, quoted, quote}
+use Rattle.idl_grammar.specs.declared.terminal.Terminal.TheVariants as terminal
+use Rattle.idl_grammar.specs.Read.{has_parts, native_name, native_text, next_text, parts_of, quoted, read_spelling, read_token}
+use Rattle.idl_grammar.specs.Spellings.{HasParts, IsFileName, IsInclude, IsNative, IsNativeText, Parted, Include, Native, quote}
+use Rattle.idl_grammar.specs.Terminals.{Lexeme, fits, symbol_of}
 use Rattle.idl_grammar.proofs.Symbols.{both_true}
 
 -- ---- where runs end
@@ -76,8 +80,15 @@ include-kept text name i =
     ∙ ap (λ xs. front Quoted (drop 1 xs)) gap
     ∙ front-whole Quoted name quote i.named.quoted (quote-unquoted [])
 
-pub include-made : (text : List ℕ) → IsMadeOf include text → IsInclude text (quoted text)
+include-made : (text : List ℕ) → IsMadeOf include text → IsInclude text (quoted text)
 include-made text m = let p = include-parts text m in subst (IsInclude text) (sym (include-kept text p.0 p.1)) p.1
+
+made-include : (text name : List ℕ) → IsInclude text name → IsMadeOf include text
+unfolding include
+made-include text name i =
+    let whole : text ≡ codes "#include" ++ (i.gap ++ (34 ∷ (name ++ quote))) = i.whole ∙ include-groups (codes "#include") i.gap quote name quote in
+    let named : IsMadeOf (run Quoted short ∷ literal quote ∷ []) (name ++ quote) = (name, quote, refl, i.named.quoted, i.named.short, ([], refl, refl)) in
+    (i.gap ++ (34 ∷ (name ++ quote)), whole, (i.gap, 34 ∷ (name ++ quote), refl, i.gaps, i.parted, (name ++ quote, refl, named)))
 
 -- ---- natives
 
@@ -139,7 +150,7 @@ native-kept text name inside n =
     )
 
 -- the name and the text that are kept are those of the spelling
-pub native-made : (text : List ℕ) → IsMadeOf native text → IsNative text (native_name text) (native_text text)
+native-made : (text : List ℕ) → IsMadeOf native text → IsNative text (native_name text) (native_text text)
 native-made text m =
     let p = native-parts text m in
     let k = native-kept text p.0 p.1 p.2 in
@@ -151,3 +162,71 @@ native-once text name inside other within one two =
     let k = native-kept text name inside one in
     let l = native-kept text other within two in
     (sym k.0 ∙ l.0, sym k.1 ∙ l.1)
+
+-- a word, as a part of a text
+word-run : (name : List ℕ) → IsWord name → is_word name ≡ true
+word-run name w = let same : name ≡ w.0 = w.2 ∙ ap (λ xs. w.0 ++ xs) w.5 ∙ append-nil w.0 in ap is_word same ∙ w.4
+
+made-native : (text name inside : List ℕ) → IsNative text name inside → IsMadeOf native text
+unfolding native any
+made-native text name inside n =
+    let closed = inside ++ codes ")" in
+    let opened = 40 ∷ closed in
+    let spaced = n.space ++ opened in
+    let whole : text ≡ codes "native" ++ (n.gap ++ (name ++ (n.space ++ (40 ∷ (inside ++ codes ")"))))) =
+    n.whole ∙ native-groups (codes "native") n.gap name n.space (codes "(") inside (codes ")") in
+    let written : IsMadeOf (run Parenthesized some ∷ literal (codes ")") ∷ []) (inside ++ codes ")") =
+    (inside, codes ")", refl, n.written.enclosed, n.written.some, ([], refl, refl)) in (
+      n.gap ++ (name ++ spaced),
+      whole,
+      (n.gap, name ++ spaced, refl, n.gaps, n.parted, (name, spaced, refl, named-bytes name n.named, word-run name n.named, (n.space, opened, refl, n.spaces, refl, (closed, refl, written)))),
+    )
+
+-- ---- spellings that have parts
+
+-- the parts that the reader finds are those of the spelling
+pub parts-had : {A : Type 0} (form : Parted A) (spelling : List ℕ) → has_parts form spelling ≡ true → HasParts form spelling (parts_of form spelling)
+parts-had Include spelling e = include-made spelling (include-whole spelling e)
+parts-had Native spelling e = native-made spelling (native-whole spelling e)
+
+-- and it finds the parts of each spelling that has some
+pub had-parts : {A : Type 0} (form : Parted A) (spelling : List ℕ) (parts : A) → HasParts form spelling parts
+    → (has_parts form spelling ≡ true) × (parts_of form spelling ≡ parts)
+had-parts Include spelling name i =
+    (whole-include spelling (made-include spelling name i), include-kept spelling name i)
+had-parts Native spelling parts n =
+    let k = native-kept spelling parts.0 parts.1 n in
+    (whole-native spelling (made-native spelling parts.0 parts.1 n), rw (k.0, k.1) refl)
+
+-- ---- reading them
+
+and-true : (b : Bool) → (b && true) ≡ b
+and-true true = refl
+and-true false = refl
+
+and-false : (b : Bool) → (b && false) ≡ false
+and-false true = refl
+and-false false = refl
+
+text-none : {A : Type 0} (form : Parted A) (ts : List Lexeme) → has_parts form (next_text ts) ≡ false → read_spelling form ts ≡ Err ts
+text-none form [] e = refl
+text-none form (t ∷ ts) e = rw (e, and-false (fits t (symbol_of form))) refl
+
+text-some : {A : Type 0} (form : Parted A) (ts : List Lexeme) → has_parts form (next_text ts) ≡ true → read_spelling form ts ≡ read_token (symbol_of form) ts
+text-some form [] e = refl
+text-some form (t ∷ ts) e = rw (e, and-true (fits t (symbol_of form))) refl
+
+-- by the test of the next token's spelling
+pub include-none : (ts : List Lexeme) → is_whole include (next_text ts) ≡ false → read_spelling Include ts ≡ Err ts
+include-none ts e = text-none Include ts e
+
+pub include-some : (ts : List Lexeme) → is_whole include (next_text ts) ≡ true → read_spelling Include ts ≡ read_token terminal.Include ts
+include-some ts e = text-some Include ts e
+
+pub native-none : (ts : List Lexeme) → is_whole native (next_text ts) ≡ false → read_spelling Native ts ≡ Err ts
+native-none ts e = text-none Native ts e
+
+pub native-some : (ts : List Lexeme) → is_whole native (next_text ts) ≡ true → read_spelling Native ts ≡ read_token terminal.Native ts
+native-some ts e = text-some Native ts e
+
+pub ruleset texts_read = (include-none, include-some, native-none, native-some)

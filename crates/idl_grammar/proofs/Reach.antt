@@ -1,12 +1,14 @@
 -- No prefix form of a predictive rule reaches further than its reading does.
 use Rattle.std.proofs.Common.{◌≡◌, ◌≤◌, ℕ, zero, suc, Bool, true, false, not, cond, inl, inr, List, [], ◌∷◌, ◌++◌, length, Ok, Err, refl, sym, ◌∙◌, ap, subst, append-nil, append_assoc, arith, length-append}
 use Rattle.idl_grammar.specs.declared.terminal.Terminal.{Terminal}
+use Rattle.idl_grammar.specs.Spellings.{Parted}
 use Rattle.idl_grammar.specs.Terminals.{Lexeme}
-use Rattle.idl_grammar.specs.Rule.{Rule, token, nothing, map, both, or, many, lined, line_of, Each, Reads, Begins}
+use Rattle.idl_grammar.specs.Rule.{Rule, token, parted, nothing, map, both, or, many, lined, line_of, Each, Reads, Begins}
 use Rattle.idl_grammar.specs.Read.{Outcome, pair, and_then, read_many, read, left, has, next_in, is_nullable, starts, goes_on, apart, is_predictive}
 use Rattle.idl_grammar.proofs.Symbols.{both_true, all_three, all_four, not_true}
 use Rattle.idl_grammar.proofs.Sets.{apart-has}
 use Rattle.idl_grammar.proofs.Begin.{reads-first, reads-begins, begins-starts}
+use Rattle.idl_grammar.proofs.NativeLaws.{had-parts}
 use Rattle.idl_grammar.proofs.Sound.{left-read}
 use Rattle.idl_grammar.proofs.Complete.{Complete, complete, many-step}
 
@@ -32,6 +34,10 @@ left-many {A} p h (suc fuel) ts = of_test (next_in (starts p) ts) (and_then (rea
 reach-token : (symbol : Terminal) → Reach (token symbol)
 reach-token symbol ts rest (inl e) = rw e (left-read (token symbol) refl rest)
 reach-token symbol ts rest (inr h) = let r = h.1 in rw (r.1, r.2) (omega arith)
+
+reach-parts : {A : Type 0} (form : Parted A) → Reach (parted form)
+reach-parts form ts rest (inl e) = rw e (left-read (parted form) refl rest)
+reach-parts form ts rest (inr h) = let r = h.1 in let one = had-parts form r.0.text h.0 r.3 in rw (r.1, r.2, one.0) (omega arith)
 
 reach-lined : {A : Type 0} (p : Rule A) → Reach p → Reach (lined p)
 reach-lined p f ts rest b = left-keep (length rest) (read p (ts ++ rest)) (λ a. pair (line_of (ts ++ rest)) a) (f ts rest b)
@@ -129,6 +135,7 @@ reach-many p i e h c f ts rest b =
 
 pub reach : {A : Type 0} (r : Rule A) → is_predictive r ≡ true → Reach r
 reach (token symbol) h = reach-token symbol
+reach (parted form) h = reach-parts form
 reach (nothing x) h = λ ts rest b. rw b (omega arith)
 reach (map f p) h = reach-map f p (reach p h)
 reach (both p q) h =

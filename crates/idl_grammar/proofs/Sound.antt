@@ -1,12 +1,14 @@
 -- What a rule's reading gives is a reading of the rule, and where it fails, the tokens before the first that cannot go on are a
 -- prefix form of it.
-use Rattle.std.proofs.Common.{◌≡◌, ℕ, zero, suc, Bool, true, false, not, cond, inl, inr, List, [], ◌∷◌, ◌++◌, length, ◌<◌, ◌≤◌, Ok, Err, refl, sym, ◌∙◌, ap, subst, append_assoc, arith, length-append}
+use Rattle.std.proofs.Common.{◌≡◌, ℕ, zero, suc, Bool, true, false, not, ◌&&◌, cond, inl, inr, List, [], ◌∷◌, ◌++◌, length, ◌<◌, ◌≤◌, Ok, Err, refl, sym, ◌∙◌, ap, subst, append_assoc, arith, length-append}
 use Rattle.idl_grammar.specs.declared.terminal.Terminal.{Terminal}
-use Rattle.idl_grammar.specs.Terminals.{Lexeme, fits}
-use Rattle.idl_grammar.specs.Rule.{Rule, token, nothing, map, both, or, many, lined, line_of, Reads, Begins}
-use Rattle.idl_grammar.specs.Read.{Outcome, pair, and_then, read_many, read, left, next_in, is_nullable, starts, goes_on, apart, is_predictive}
+use Rattle.idl_grammar.specs.Spellings.{Parted}
+use Rattle.idl_grammar.specs.Terminals.{Lexeme, fits, symbol_of}
+use Rattle.idl_grammar.specs.Rule.{Rule, token, parted, nothing, map, both, or, many, lined, line_of, Reads, Begins}
+use Rattle.idl_grammar.specs.Read.{Outcome, pair, and_then, has_parts, parts_of, read_many, read, left, next_in, is_nullable, starts, goes_on, apart, is_predictive}
 use Rattle.idl_grammar.proofs.Symbols.{both_true, all_three, all_four, not_true}
 use Rattle.idl_grammar.proofs.Begin.{reads-nil}
+use Rattle.idl_grammar.proofs.NativeLaws.{parts-had}
 
 -- this outcome of reading the tokens is sound
 abbrev pub Sound : {A : Type 0} → Rule A → List Lexeme → Outcome A → Type 0
@@ -20,6 +22,12 @@ sound-token : (symbol : Terminal) (t : Lexeme) (ts : List Lexeme) (b : Bool) →
     → Sound (token symbol) (t ∷ ts) (cond b (Ok (pair t.text ts)) (Err (t ∷ ts)))
 sound-token symbol t ts true e = (t ∷ [], refl, (t, refl, e, refl))
 sound-token symbol t ts false e = ([], refl, inl refl)
+
+sound-parts : {A : Type 0} (form : Parted A) (t : Lexeme) (ts : List Lexeme) (b : Bool) → (fits t (symbol_of form) && has_parts form t.text) ≡ b
+    → Sound (parted form) (t ∷ ts) (and_then (cond b (Ok (pair t.text ts)) (Err (t ∷ ts))) (λ text rest. Ok (pair (parts_of form text) rest)))
+sound-parts form t ts true e =
+    let both = both_true (fits t (symbol_of form)) (has_parts form t.text) e in (t ∷ [], refl, (t, refl, both.0, parts-had form t.text both.1))
+sound-parts form t ts false e = ([], refl, inl refl)
 
 sound-map : {A B : Type 0} (f : A → B) (p : Rule A) (ts : List Lexeme) (o : Outcome A) → Sound p ts o
     → Sound (map f p) ts (and_then o (λ a rest. Ok (pair (f a) rest)))
@@ -88,6 +96,8 @@ sound-lined p ts n (Err rest) s = s
 pub sound : {A : Type 0} (r : Rule A) → is_predictive r ≡ true → (ts : List Lexeme) → Sound r ts (read r ts)
 sound (token symbol) h [] = ([], refl, inl refl)
 sound (token symbol) h (t ∷ ts) = sound-token symbol t ts (fits t symbol) refl
+sound (parted form) h [] = ([], refl, inl refl)
+sound (parted form) h (t ∷ ts) = sound-parts form t ts (fits t (symbol_of form) && has_parts form t.text) refl
 sound (nothing x) h ts = ([], refl, (refl, refl))
 sound (map f p) h ts = sound-map f p ts (read p ts) (sound p h ts)
 sound (both p q) h ts =

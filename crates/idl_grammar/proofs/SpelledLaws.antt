@@ -12,19 +12,17 @@ use Rattle.idl_lexer.specs.declared.token.Kind.TheVariants as kind
 use Rattle.idl_lexer.specs.declared.token.Token.{Token}
 use Rattle.idl_lexer.specs.Classes.{is_in}
 use Rattle.idl_lexer.specs.Parts.{IsMadeOf, is_name, is_word}
-use Rattle.idl_lexer.specs.Spelling.{IsNumber, IsWord, Spells, iid, include, native}
+use Rattle.idl_lexer.specs.Spelling.{IsNumber, IsWord, Spells, iid}
 use Rattle.idl_lexer.specs.Tokens.{AreTokens, IsTokenOf}
 use Rattle.idl_lexer.proofs.ByteLaws.{word-tests}
 use Rattle.idl_lexer.proofs.LexLaws.{tokens-each}
 use Rattle.idl_grammar.specs.declared.terminal.Key.{Key}
 use Rattle.idl_grammar.specs.declared.terminal.Terminal.TheVariants as terminal
 use Rattle.idl_grammar.specs.Rule.{token}
-use Rattle.idl_grammar.specs.Spellings.{IsInclude, IsNative, native_name, native_text, quoted}
 use Rattle.idl_grammar.specs.Terminals.{Lexeme, fits, is_symbol, key_spelling, lexemes_of, same_kind}
 use Rattle.idl_grammar.specs.Trees.{IsIid, IsName, IsShortText}
 use Rattle.idl_grammar.proofs.IidLaws.{iid-read}
 use Rattle.idl_grammar.proofs.Made.{AreSpelled, IsSpelled, Makes, makes_token}
-use Rattle.idl_grammar.proofs.NativeLaws.{include-made, native-made}
 use Rattle.idl_grammar.proofs.Symbols.{both_true}
 
 -- ---- the tokens of a text
@@ -84,16 +82,6 @@ unfolding same_kind
 iid-like kind.Iid text next e s = s
 iid-like _ text next e s = absurd cc
 
-include-like : (k : Kind) (text next : List ℕ) → same_kind k kind.Include ≡ true → Spells k text next → IsMadeOf include text
-unfolding same_kind
-include-like kind.Include text next e s = s
-include-like _ text next e s = absurd cc
-
-native-like : (k : Kind) (text next : List ℕ) → same_kind k kind.Native ≡ true → Spells k text next → IsMadeOf native text
-unfolding same_kind
-native-like kind.Native text next e s = s
-native-like _ text next e s = absurd cc
-
 pub word-token : (t : Lexeme) → IsSpelled t → fits t terminal.Word ≡ true → IsName t.text
 unfolding is_symbol
 word-token t s e = word-name t.text (word-like t.kind t.text s.0 e s.1)
@@ -105,14 +93,6 @@ number-token t s e = number-like t.kind t.text s.0 e s.1
 pub iid-token : (t : Lexeme) → IsSpelled t → fits t terminal.Iid ≡ true → IsIid t.text
 unfolding is_symbol
 iid-token t s e = iid-read t.text (iid-like t.kind t.text s.0 e s.1)
-
-pub include-token : (t : Lexeme) → IsSpelled t → fits t terminal.Include ≡ true → IsInclude t.text (quoted t.text)
-unfolding is_symbol
-include-token t s e = include-made t.text (include-like t.kind t.text s.0 e s.1)
-
-pub native-token : (t : Lexeme) → IsSpelled t → fits t terminal.Native ≡ true → IsNative t.text (native_name t.text) (native_text t.text)
-unfolding is_symbol
-native-token t s e = native-made t.text (native-like t.kind t.text s.0 e s.1)
 
 pub key-token : (k : Key) (t : Lexeme) → fits t (terminal.Key k) ≡ true → t.text ≡ key_spelling k
 unfolding is_symbol

@@ -20,8 +20,8 @@ use Rattle.idl_grammar.specs.declared.tree.MemberBody.{MemberBody}
 use Rattle.idl_grammar.specs.declared.tree.TypeName.{TypeName}
 use Rattle.idl_grammar.specs.Grammar.{word, means, long_type, unsigned_type, wide_type, type_name, attribute_name, attribute_word, attribute_value, one_attribute, attribute_list, attributes, any_attributes, direction, operator, joined, chain, products, sums, shifts, unions, number_step, name_step, simple, negation, parentheses, within, unary, expression, parameter, parameter_list, parameters, attribute, method, marked_member, constant, member_body, one_member, members, forward, parent, definition, interface, native, marked_item, typedef, item_body, one_item, items, file}
 use Rattle.idl_grammar.specs.Read.{is_nullable}
-use Rattle.idl_grammar.specs.Rule.{Rule, both, many, map, token, Each, Reads, ◌&>◌, ◌<&◌, each_after, separated}
-use Rattle.idl_grammar.specs.Spellings.{IsInclude, IsNative, native_name, native_text, quoted}
+use Rattle.idl_grammar.specs.Rule.{Rule, both, many, map, parted, token, Each, Reads, ◌&>◌, ◌<&◌, each_after, separated}
+use Rattle.idl_grammar.specs.Spellings.{Include, Native}
 use Rattle.idl_lexer.specs.Spelling.{IsNumber}
 use Rattle.idl_grammar.specs.Terminals.{Lexeme, lexeme_of, lexemes_of}
 use Rattle.idl_grammar.specs.Texts.{HasTree, IsLawfulFile}
@@ -29,9 +29,9 @@ use Rattle.idl_grammar.specs.Trees.{AreFew, IsIid, IsName, IsTypeName, IsAttrVal
 use Rattle.idl_grammar.proofs.Begin.{reads-first}
 use Rattle.idl_grammar.proofs.Counts.{each-count}
 use Rattle.idl_grammar.proofs.ExprLaws.{leaves-append, leaves-second}
-use Rattle.idl_grammar.proofs.Made.{AreSpelled, Makes, parts, each-made, makes_any, makes_token, makes_nothing, makes_map, makes_both, makes_or, makes_many, makes_lined}
+use Rattle.idl_grammar.proofs.Made.{AreSpelled, Makes, parts, each-made, makes_any, makes_parts, makes_token, makes_nothing, makes_map, makes_both, makes_or, makes_many, makes_lined}
 use Rattle.idl_grammar.proofs.Predictive.{member-repeats, item-repeats}
-use Rattle.idl_grammar.proofs.SpelledLaws.{text-spelled, word-token, number-token, iid-token, include-token, native-token, key-token, word-name}
+use Rattle.idl_grammar.proofs.SpelledLaws.{text-spelled, word-token, number-token, iid-token, key-token, word-name}
 
 attribute-filled : is_nullable one_attribute ≡ false
 unfolding one_attribute attribute_name
@@ -54,12 +54,12 @@ makes_left m = makes_map (makes_both m makes_any) (λ r h. h.0)
 
 makes_separated : {A B : Type 0} {most : ℕ} {c : Rule B} {p : Rule A} {P : A → Type 0} → is_nullable c ≡ false → is_nullable p ≡ false
     → Makes most p P → Makes most (separated c p) (AreFew most P)
-makes_separated {A = A} {most = most} {c = c} {p = p} {P = P} parted filled made = record { all = all } where
+makes_separated {A = A} {most = most} {c = c} {p = p} {P = P} divided filled made = record { all = all } where
   others : Makes most (map (λ r. r.1) (both c p)) P
   others = makes_map (makes_both makes_any made) (λ r h. h.1)
 
   others-filled : is_nullable (both c p) ≡ false
-  others-filled = rw parted refl
+  others-filled = rw divided refl
 
   all : (ts : List Lexeme) (xs : List A) → AreSpelled ts → length ts ≤ most → Reads (separated c p) ts xs → AreFew most P xs
   all ts xs s few reads =
@@ -258,21 +258,13 @@ unfolding interface forward
 interface-made =
     makes_map (makes_right (makes_both word-made (makes_or (makes_map makes_any (λ _ _ name n attrs a. n)) definition-made))) (λ r h. h.1 r.0 h.0)
 
--- the spelling of a native has the name and the text that are kept of it
-abbrev IsNativeToken : List ℕ → Type 0
-IsNativeToken text = IsNative text (native_name text) (native_text text)
-
-abbrev IsIncludeToken : List ℕ → Type 0
-IsIncludeToken text = IsInclude text (quoted text)
-
 native-item : {most : ℕ} → Makes most native (IsMarkedItem most)
 unfolding native
 native-item =
-    makes_map (makes_left (makes_token {P = IsNativeToken} terminal.Native native-token))
-    (λ text h attrs a. (a, word-name _ h.named, (text, h)))
+    makes_map (makes_left (makes_parts Native)) (λ parts h attrs a. (a, word-name _ h.1.named, h))
 
-include-item : {most : ℕ} → Makes most (map (λ text. item.Include (quoted text)) (token terminal.Include)) (IsItemBody most)
-include-item = makes_map (makes_token {P = IsIncludeToken} terminal.Include include-token) (λ text h. (text, h))
+include-item : {most : ℕ} → Makes most (map item.Include (parted Include)) (IsItemBody most)
+include-item = makes_map (makes_parts Include) (λ name h. h)
 
 typedef-item : {most : ℕ} → Makes most typedef (IsItemBody most)
 unfolding typedef

@@ -26,8 +26,8 @@ use Rattle.idl_grammar.specs.declared.tree.AttrValue.TheVariants as value
 use Rattle.idl_grammar.specs.declared.tree.Expr.{Expr}
 use Rattle.idl_grammar.specs.declared.tree.ExprStep.{ExprStep}
 use Rattle.idl_grammar.specs.declared.tree.ExprStep.TheVariants as step
-use Rattle.idl_grammar.specs.Rule.{Rule, token, nothing, map, many, lined, ◌&◌, ◌&>◌, ◌<&◌, ◌<$>◌, ◌<|>◌, optional, each_after, separated}
-use Rattle.idl_grammar.specs.Spellings.{quoted, native_name, native_text}
+use Rattle.idl_grammar.specs.Rule.{Rule, token, parted, nothing, map, many, lined, ◌&◌, ◌&>◌, ◌<&◌, ◌<$>◌, ◌<|>◌, optional, each_after, separated}
+use Rattle.idl_grammar.specs.Spellings.{Include, Native}
 
 abbrev pub key : Key → Rule (List ℕ)
 key k = token (terminal.Key k)
@@ -262,9 +262,7 @@ interface = (λ r. r.1 r.0) <$> key k.Interface &> word & (forward <|> definitio
 
 -- Native ";"
 unfoldable pub native : Rule (List Attr → ItemBody)
-native =
-    (λ text attrs. item.Native attrs (native_name text) (native_text text))
-    <$> token terminal.Native <& mark m.Semi
+native = (λ parts attrs. item.Native attrs parts.0 parts.1) <$> parted Native <& mark m.Semi
 
 -- attrs? native | attrs? interface
 unfoldable pub marked_item : Rule ItemBody
@@ -276,7 +274,7 @@ typedef = (λ r. item.Typedef r.0 r.1) <$> key k.Typedef &> type_name & (word <&
 
 unfoldable pub item_body : Rule ItemBody
 item_body =
-    (λ text. item.Include (quoted text)) <$> token terminal.Include
+    item.Include <$> parted Include
     <|> means (token terminal.Code) item.Code <|> typedef <|> marked_item
 
 unfoldable pub one_item : Rule Item

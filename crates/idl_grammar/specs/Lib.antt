@@ -1,6 +1,6 @@
+pub mod Spellings
 pub mod Terminals
 pub mod Rule
-pub mod Spellings
 pub mod Grammar
 pub mod Read
 pub mod Gives

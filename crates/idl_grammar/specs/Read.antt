@@ -1,14 +1,18 @@
 -- What the parser computes: the reading of a rule with one token of look-ahead, as a function on
 -- lists of tokens, and the test that one token is enough. A rule is read by its own form; there is
 -- no reading by hand of any production.
-use Rattle.std.specs.Prelude.{ℕ, zero, suc, Bool, true, false, not, ◌&&◌, ◌||◌, if◌then◌else◌, List, [], ◌∷◌, ◌++◌, length, Option, Some, None, Result, Ok, Err}
+use Rattle.std.specs.Prelude.{ℕ, zero, suc, Bool, true, false, not, ◌&&◌, ◌||◌, if◌then◌else◌, List, [], ◌∷◌, ◌++◌, drop, length, Option, Some, None, Result, Ok, Err}
 use Rattle.std.specs.Str.{bytes_eq}
+use Rattle.idl_lexer.specs.declared.class.Class.TheVariants.{NameByte, Gap, Quoted, Parenthesized}
 use Rattle.idl_lexer.specs.declared.token.Kind.{Kind}
 use Rattle.idl_lexer.specs.declared.token.Kind.TheVariants as kind
+use Rattle.idl_lexer.specs.Reading.{front, behind, is_whole}
+use Rattle.idl_lexer.specs.Spelling as lexer
 use Rattle.idl_grammar.specs.declared.terminal.Terminal.{Terminal}
 use Rattle.idl_grammar.specs.declared.terminal.Terminal.TheVariants as terminal
-use Rattle.idl_grammar.specs.Terminals.{Lexeme, fits, same_kind, key_spelling, mark_spelling}
-use Rattle.idl_grammar.specs.Rule.{Rule, token, nothing, map, both, or, many, lined, line_of}
+use Rattle.idl_grammar.specs.Spellings.{Parted, Include, Native}
+use Rattle.idl_grammar.specs.Terminals.{Lexeme, fits, symbol_of, same_kind, key_spelling, mark_spelling}
+use Rattle.idl_grammar.specs.Rule.{Rule, token, parted, nothing, map, both, or, many, lined, line_of}
 
 -- ---- look-ahead
 
@@ -28,6 +32,7 @@ when b symbols = if b then symbols else []
 -- whether the rule reads nothing at all
 abbrev pub is_nullable : {A : Type 0} → Rule A → Bool
 is_nullable (token symbol) = false
+is_nullable (parted form) = false
 is_nullable (nothing x) = true
 is_nullable (map f p) = is_nullable p
 is_nullable (both p q) = is_nullable p && is_nullable q
@@ -38,6 +43,7 @@ is_nullable (lined p) = is_nullable p
 -- the symbols with which a reading may begin
 abbrev pub starts : {A : Type 0} → Rule A → List Terminal
 starts (token symbol) = symbol ∷ []
+starts (parted form) = symbol_of form ∷ []
 starts (nothing x) = []
 starts (map f p) = starts p
 starts (both p q) = starts p ++ when (is_nullable p) (starts q)
@@ -48,6 +54,7 @@ starts (lined p) = starts p
 -- the symbols with which a whole reading may go on
 abbrev pub goes_on : {A : Type 0} → Rule A → List Terminal
 goes_on (token symbol) = []
+goes_on (parted form) = []
 goes_on (nothing x) = []
 goes_on (map f p) = goes_on p
 goes_on (both p q) = goes_on q ++ when (is_nullable q) (goes_on p)
@@ -101,6 +108,7 @@ apart (symbol ∷ symbols) others = excludes_all symbol others && apart symbols 
 -- on with
 abbrev pub is_predictive : {A : Type 0} → Rule A → Bool
 is_predictive (token symbol) = true
+is_predictive (parted form) = true
 is_predictive (nothing x) = true
 is_predictive (map f p) = is_predictive p
 is_predictive (both p q) = is_predictive p && is_predictive q && apart (goes_on p) (starts q)
@@ -108,6 +116,35 @@ is_predictive (or p q) =
     is_predictive p && is_predictive q && not (is_nullable p) && apart (starts p) (starts q)
 is_predictive (many p) = is_predictive p && not (is_nullable p) && apart (goes_on p) (starts p)
 is_predictive (lined p) = is_predictive p && not (is_nullable p)
+
+-- ---- the parts of a spelling, as the reader finds them
+
+-- the bytes between the quotes of an include
+unfoldable pub quoted : List ℕ → List ℕ
+quoted text = front Quoted (drop 1 (behind Gap (drop 8 text)))
+
+-- what stands behind the word `native` and its gap
+abbrev pub behind_native : List ℕ → List ℕ
+behind_native spelling = behind Gap (drop 6 spelling)
+
+-- the name of a native
+unfoldable pub native_name : List ℕ → List ℕ
+native_name spelling = front NameByte (behind_native spelling)
+
+-- the bytes between the parentheses of a native
+unfoldable pub native_text : List ℕ → List ℕ
+native_text spelling =
+    front Parenthesized (drop 1 (behind Gap (behind NameByte (behind_native spelling))))
+
+-- the parts of a spelling that has some
+abbrev pub parts_of : {A : Type 0} → Parted A → List ℕ → A
+parts_of Include spelling = quoted spelling
+parts_of Native spelling = (native_name spelling, native_text spelling)
+
+-- whether the spelling has such parts
+abbrev pub has_parts : {A : Type 0} → Parted A → List ℕ → Bool
+has_parts Include spelling = is_whole lexer.include spelling
+has_parts Native spelling = is_whole lexer.native spelling
 
 -- ---- the reading
 
@@ -126,6 +163,21 @@ abbrev pub read_token : Terminal → List Lexeme → Outcome (List ℕ)
 read_token symbol [] = Err []
 read_token symbol (t ∷ ts) = if fits t symbol then Ok (pair t.text ts) else Err (t ∷ ts)
 
+-- the spelling of the next token, where there is one
+abbrev pub next_text : List Lexeme → List ℕ
+next_text [] = []
+next_text (t ∷ ts) = t.text
+
+-- the same of a token of the symbol whose spelling has the parts
+abbrev pub read_spelling : {A : Type 0} → Parted A → List Lexeme → Outcome (List ℕ)
+read_spelling form [] = Err []
+read_spelling form (t ∷ ts) =
+    if fits t (symbol_of form) && has_parts form t.text then Ok (pair t.text ts) else Err (t ∷ ts)
+
+abbrev pub read_parts : {A : Type 0} → Parted A → List Lexeme → Outcome A
+read_parts form ts =
+    and_then (read_spelling form ts) (λ text rest. Ok (pair (parts_of form text) rest))
+
 -- readings one behind the other, as long as the next token begins one
 abbrev pub read_many : {A : Type 0} → (List Lexeme → Outcome A)
     → List Terminal → ℕ → List Lexeme → Outcome (List A)
@@ -138,6 +190,7 @@ read_many f symbols (suc fuel) ts =
 
 abbrev pub read : {A : Type 0} → Rule A → List Lexeme → Outcome A
 read (token symbol) ts = read_token symbol ts
+read (parted form) ts = read_parts form ts
 read (nothing x) ts = Ok (pair x ts)
 read (map f p) ts = and_then (read p ts) (λ a rest. Ok (pair (f a) rest))
 read (both p q) ts =

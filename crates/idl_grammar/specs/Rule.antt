@@ -1,13 +1,15 @@
 -- A grammar as data: what a rule reads, and how what it reads may begin.
 use Rattle.std.specs.Prelude.{◌≡◌, ℕ, true, ◌⊎◌, List, [], ◌∷◌, ◌++◌, Option, Some, None}
 use Rattle.idl_grammar.specs.declared.terminal.Terminal.{Terminal}
-use Rattle.idl_grammar.specs.Terminals.{Lexeme, fits}
+use Rattle.idl_grammar.specs.Spellings.{Parted, HasParts}
+use Rattle.idl_grammar.specs.Terminals.{Lexeme, fits, symbol_of}
 
--- A rule whose readings are trees of a type: a token of a symbol, nothing at all, a reading made
--- into another tree, one rule and then another, either of two, any number of readings one behind
--- the other, and a reading with the line of its first token.
+-- A rule whose readings are trees of a type: a token of a symbol, the parts of a token's spelling,
+-- nothing at all, a reading made into another tree, one rule and then another, either of two, any
+-- number of readings one behind the other, and a reading with the line of its first token.
 pub data Rule : Type 0 → Type 1 where
   token : Terminal → Rule (List ℕ)
+  parted : {A : Type 0} → Parted A → Rule A
   nothing : {A : Type 0} → A → Rule A
   map : {A B : Type 0} → (A → B) → Rule A → Rule B
   both : {A B : Type 0} → Rule A → Rule B → Rule (A × B)
@@ -29,6 +31,8 @@ Each R ts (x ∷ xs) = (u : List Lexeme) × (v : List Lexeme) × (ts ≡ u ++ v)
 abbrev pub Reads : {A : Type 0} → Rule A → List Lexeme → A → Type 0
 Reads (token symbol) ts text =
     (t : Lexeme) × (ts ≡ t ∷ []) × (fits t symbol ≡ true) × (text ≡ t.text)
+Reads (parted form) ts parts =
+    (t : Lexeme) × (ts ≡ t ∷ []) × (fits t (symbol_of form) ≡ true) × HasParts form t.text parts
 Reads (nothing x) ts a = (ts ≡ []) × (a ≡ x)
 Reads (map {A = A} f p) ts b = (a : A) × Reads p ts a × (b ≡ f a)
 Reads (both p q) ts ab =
@@ -42,6 +46,7 @@ Reads (lined p) ts a = Reads p ts a.1 × (a.0 ≡ line_of ts)
 -- repetition count one by one.
 abbrev pub Begins : {A : Type 0} → Rule A → List Lexeme → Type 0
 Begins (token symbol) ts = (ts ≡ []) ⊎ ((text : List ℕ) × Reads (token symbol) ts text)
+Begins (parted {A = A} form) ts = (ts ≡ []) ⊎ ((parts : A) × Reads (parted form) ts parts)
 Begins (nothing x) ts = ts ≡ []
 Begins (map f p) ts = Begins p ts
 Begins (both {A = A} p q) ts =

@@ -1,10 +1,9 @@
 -- What a tree keeps of the spelling of a token.
-use Rattle.std.specs.Prelude.{◌≡◌, ℕ, List, [], ◌∷◌, ◌++◌, drop, IsTrue, codes}
+use Rattle.std.specs.Prelude.{◌≡◌, ℕ, List, [], ◌∷◌, ◌++◌, IsTrue, codes}
 use Rattle.std.specs.List.{list_all}
-use Rattle.idl_lexer.specs.declared.class.Class.TheVariants.{NameByte, Gap, Quoted, Parenthesized}
+use Rattle.idl_lexer.specs.declared.class.Class.TheVariants.{Gap, Quoted, Parenthesized}
 use Rattle.idl_lexer.specs.Classes.{is_in}
 use Rattle.idl_lexer.specs.Parts.{some, short}
-use Rattle.idl_lexer.specs.Reading.{front, behind}
 use Rattle.idl_lexer.specs.Spelling.{IsWord}
 
 abbrev pub quote : List ℕ
@@ -24,10 +23,6 @@ pub record IsInclude (spelling name : List ℕ) : Type 0 where
   pub gaps : IsTrue (list_all (is_in Gap) gap)
   pub parted : IsTrue (some gap)
   pub named : IsFileName name
-
--- the bytes between the quotes of an include
-unfoldable pub quoted : List ℕ → List ℕ
-quoted text = front Quoted (drop 1 (behind Gap (drop 8 text)))
 
 -- ---- a native: `native`, a gap, a name, perhaps a gap, and a text in parentheses
 
@@ -53,15 +48,14 @@ IsReadOnce spelling =
     (name text other_name other_text : List ℕ) → IsNative spelling name text
     → IsNative spelling other_name other_text → (name ≡ other_name) × (text ≡ other_text)
 
--- what stands behind the word `native` and its gap
-abbrev pub behind_native : List ℕ → List ℕ
-behind_native spelling = behind Gap (drop 6 spelling)
+-- ---- the spellings of which a tree keeps parts
 
--- the name of a native
-unfoldable pub native_name : List ℕ → List ℕ
-native_name spelling = front NameByte (behind_native spelling)
+-- an include, of which it keeps the file's name, and a native, of which it keeps name and text
+pub data Parted : Type 0 → Type 1 where
+  Include : Parted (List ℕ)
+  Native : Parted (List ℕ × List ℕ)
 
--- the bytes between the parentheses of a native
-unfoldable pub native_text : List ℕ → List ℕ
-native_text spelling =
-    front Parenthesized (drop 1 (behind Gap (behind NameByte (behind_native spelling))))
+-- the spelling is one of these, and has these parts
+abbrev pub HasParts : {A : Type 0} → Parted A → List ℕ → A → Type 0
+HasParts Include spelling name = IsInclude spelling name
+HasParts Native spelling parts = IsNative spelling parts.0 parts.1

@@ -12,6 +12,7 @@ use Rattle.idl_grammar.specs.declared.terminal.Mark.{Mark}
 use Rattle.idl_grammar.specs.declared.terminal.Mark.TheVariants as mark
 use Rattle.idl_grammar.specs.declared.terminal.Terminal.{Terminal}
 use Rattle.idl_grammar.specs.declared.terminal.Terminal.TheVariants as terminal
+use Rattle.idl_grammar.specs.Spellings.{Parted, Include, Native}
 
 -- a token, as the grammar knows it: its kind, its bytes, and the line of its first byte
 pub record Lexeme : Type 0 where
@@ -109,3 +110,8 @@ is_symbol (terminal.Mark m) what text = same_kind what kind.Mark && bytes_eq tex
 
 abbrev pub fits : Lexeme → Terminal → Bool
 fits token symbol = is_symbol symbol token.kind token.text
+
+-- the symbol of a spelling that has parts
+abbrev pub symbol_of : {A : Type 0} → Parted A → Terminal
+symbol_of Include = terminal.Include
+symbol_of Native = terminal.Native

@@ -8,11 +8,12 @@ ghost use Rattle.idl_grammar.specs.Rule.{line_of};
 ghost use Rattle.idl_grammar.specs.declared.terminal.Terminal.TheVariants as terminal;
 ghost use Rattle.idl_grammar.specs.Rule as rule;
 ghost use Rattle.idl_grammar.specs.Grammar as spec;
-ghost use Rattle.idl_grammar.specs.Read.{next_in, read, read_token};
+ghost use Rattle.idl_grammar.specs.Read.{next_in, next_text, read, read_spelling, read_token};
+ghost use Rattle.idl_grammar.specs.Spellings as spellings;
 ghost use Rattle.idl_grammar.specs.Gives.{Gives, GivesText};
 
 use crate::terminal::{Key, Mark, Terminal};
-use idl_lexer::Token;
+use idl_lexer::{Token, is_include, is_native};
 use std::alloc::Global;
 use std::marker::Model;
 use thiserror::Error;
@@ -114,6 +115,40 @@ impl<'a> Cursor<'a> {
         }
         self.rest = rest;
         Ok(text)
+    }
+
+    /// The bytes of the next token; none where there is no token.
+    fn next_text(&self) -> &'a [u8]
+        ensures { result.now ≡ next_text self.now }
+    {
+        match self.rest.first() {
+            Some(token) => spelling(self.source, token),
+            None => &[],
+        }
+    }
+
+    /// The bytes of the next token, which is the whole of an include, and the cursor goes on
+    /// behind it.
+    #[tactic(auto, using(crate::proofs::NativeLaws::texts_read))]
+    pub fn take_include(&mut self) -> Result<&'a [u8], Stop>
+        ensures { GivesText (read_spelling spellings.Include self.old) result self.new }
+    {
+        if !is_include(self.next_text()) {
+            return Err(Stop::Syntax);
+        }
+        self.take(Terminal::Include)
+    }
+
+    /// The bytes of the next token, which is the whole of a native, and the cursor goes on behind
+    /// it.
+    #[tactic(auto, using(crate::proofs::NativeLaws::texts_read))]
+    pub fn take_native(&mut self) -> Result<&'a [u8], Stop>
+        ensures { GivesText (read_spelling spellings.Native self.old) result self.new }
+    {
+        if !is_native(self.next_text()) {
+            return Err(Stop::Syntax);
+        }
+        self.take(Terminal::Native)
     }
 
     /// Whether the next token is one of these symbols.

@@ -81,7 +81,7 @@ fn interface(alloc: Global, attrs: List<Attr>, cursor: &mut Cursor<'_>) -> Resul
 fn native(alloc: Global, attrs: List<Attr>, cursor: &mut Cursor<'_>) -> Result<ItemBody, Stop>
     ensures { Gives (read (rule.map (λ f. f attrs) spec.native) cursor.old) result cursor.new }
 {
-    let spelling = cursor.take(Terminal::Native)?;
+    let spelling = cursor.take_native()?;
     cursor.take_mark(Mark::Semi)?;
     let name = Bytes::copy(alloc, native_name(spelling))?;
     let text = Bytes::copy(alloc, native_text(spelling))?;
@@ -117,7 +117,7 @@ fn item_body(alloc: Global, cursor: &mut Cursor<'_>) -> Result<ItemBody, Stop>
     ensures { Gives (read spec.item_body cursor.old) result cursor.new }
 {
     if cursor.sees(Terminal::Include) {
-        let spelling = cursor.take(Terminal::Include)?;
+        let spelling = cursor.take_include()?;
         Ok(ItemBody::Include(Bytes::copy(alloc, quoted(spelling))?))
     } else if cursor.sees(Terminal::Code) {
         means(cursor, Terminal::Code, ItemBody::Code)

@@ -1,7 +1,7 @@
 //! What a tree keeps of the spelling of a token.
 
 ghost use Rattle.std.specs.Prelude.{◌≡◌, drop};
-ghost use Rattle.idl_grammar.specs.Spellings as spec;
+ghost use Rattle.idl_grammar.specs.Read as spec;
 
 use idl_lexer::{Class, split_run};
 
@@ -16,7 +16,7 @@ fn skip(text: &[u8], count: usize) -> &[u8]
 }
 
 /// The bytes between the quotes of an include.
-#[tactic(auto, unfolding(crate::specs::Spellings::quoted))]
+#[tactic(auto, unfolding(crate::specs::Read::quoted))]
 pub fn quoted(spelling: &[u8]) -> &[u8]
     ensures { result.now ≡ spec.quoted spelling.now }
 {
@@ -34,7 +34,7 @@ fn behind_native(spelling: &[u8]) -> &[u8]
 }
 
 /// The name of a native.
-#[tactic(auto, unfolding(crate::specs::Spellings::native_name))]
+#[tactic(auto, unfolding(crate::specs::Read::native_name))]
 pub fn native_name(spelling: &[u8]) -> &[u8]
     ensures { result.now ≡ spec.native_name spelling.now }
 {
@@ -43,7 +43,7 @@ pub fn native_name(spelling: &[u8]) -> &[u8]
 }
 
 /// The bytes between the parentheses of a native.
-#[tactic(auto, unfolding(crate::specs::Spellings::native_text))]
+#[tactic(auto, unfolding(crate::specs::Read::native_text))]
 pub fn native_text(spelling: &[u8]) -> &[u8]
     ensures { result.now ≡ spec.native_text spelling.now }
 {

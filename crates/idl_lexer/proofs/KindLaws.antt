@@ -9,10 +9,10 @@ use Rattle.idl_lexer.specs.Classes.{is_in}
 use Rattle.idl_lexer.specs.Parts.{IsMadeOf, is_name, is_word}
 use Rattle.idl_lexer.specs.Spelling.{hexadecimal, decimal, iid, include, native, language, IsBlock, IsCode, is_mark}
 use Rattle.idl_lexer.specs.Pieces.{line_comment}
-use Rattle.idl_lexer.specs.Reading.{after, after_block, past_language, after_code, after_number, after_mark}
+use Rattle.idl_lexer.specs.Reading.{after, after_block, past_language, after_code, after_number, after_mark, is_whole}
 use Rattle.idl_lexer.proofs.Basics.{chosen, guarded, mapped, either_of, both_true}
 use Rattle.idl_lexer.proofs.ByteLaws.{gap-unnamed, named-no_gap, hexadecimal-named, digit-named, some-more, any-more, some-first}
-use Rattle.idl_lexer.proofs.PartLaws.{parts-read, parts-longest, IsGreedy, GoesFar}
+use Rattle.idl_lexer.proofs.PartLaws.{parts-read, parts-longest, whole-made, made-whole, IsGreedy, GoesFar}
 use Rattle.idl_lexer.proofs.PairLaws.{enclosed-reads, enclosed-again}
 
 -- ---- each spelling ends its runs
@@ -45,6 +45,20 @@ language-greedy = (refl, tt)
 pub line_comment-greedy : IsGreedy line_comment
 unfolding line_comment
 line_comment-greedy = any-more
+
+-- ---- the test of a whole spelling
+
+pub include-whole : (text : List ℕ) → is_whole include text ≡ true → IsMadeOf include text
+include-whole text e = whole-made include text e
+
+pub whole-include : (text : List ℕ) → IsMadeOf include text → is_whole include text ≡ true
+whole-include text m = made-whole include text include-greedy m
+
+pub native-whole : (text : List ℕ) → is_whole native text ≡ true → IsMadeOf native text
+native-whole text e = whole-made native text e
+
+pub whole-native : (text : List ℕ) → IsMadeOf native text → is_whole native text ≡ true
+whole-native text m = made-whole native text native-greedy m
 
 -- ---- texts that are all of one class
 

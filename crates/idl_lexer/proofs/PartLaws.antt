@@ -1,12 +1,12 @@
 -- The reader of parts gives what is left behind a text that is made of them, and behind the longest such text.
-use Rattle.std.proofs.Common.{◌≡◌, ◌≤◌, ℕ, zero, suc, Bool, true, false, cond, ◌⊎◌, inl, inr, List, [], ◌∷◌, ◌++◌, length, Option, Some, None, refl, sym, ◌∙◌, ap, arith, append_assoc, append-nil, length-append, eq-eqb}
+use Rattle.std.proofs.Common.{◌≡◌, ◌≤◌, ℕ, zero, suc, Bool, true, false, cond, ◌⊎◌, inl, inr, List, [], ◌∷◌, ◌++◌, length, Option, Some, None, refl, sym, ◌∙◌, ap, subst, arith, append_assoc, append-nil, length-append, eq-eqb}
 use Rattle.std.proofs.lemmas.Bool.Decides.{Decides-eqb}
 use Rattle.std.specs.Prelude.{◌==◌}
 use Rattle.std.specs.List.{list_all}
 use Rattle.idl_lexer.specs.declared.class.Class.{Class}
 use Rattle.idl_lexer.specs.Classes.{is_in, IsOver}
 use Rattle.idl_lexer.specs.Parts.{Part, literal, counted, run, IsMadeOf}
-use Rattle.idl_lexer.specs.Reading.{front, behind, after_literal, after_counted, after_run, after}
+use Rattle.idl_lexer.specs.Reading.{front, behind, after_literal, after_counted, after_run, after, is_end, is_whole}
 use Rattle.idl_lexer.proofs.Basics.{chosen, guarded, bound, both_true, consed}
 
 -- ---- runs
@@ -175,3 +175,24 @@ parts-longest (run c fits ∷ p ∷ parts) text next g m =
     far-of _ (after (p ∷ parts) (m.1 ++ next)) next
     (rw (e, run-again c fits (m.0 ++ (m.1 ++ next)) fit, behind-whole c m.0 (m.1 ++ next) m.3 o) refl)
     (parts-longest (p ∷ parts) m.1 next g.1 m.5)
+
+-- ---- texts that are read whole
+
+end-left : (o : Option (List ℕ)) → is_end o ≡ true → o ≡ Some []
+end-left None e = cc
+end-left (Some []) e = refl
+end-left (Some (c ∷ cs)) e = cc
+
+left-end : (o : Option (List ℕ)) → GoesFar o [] → is_end o ≡ true
+left-end o ([], e, few) = rw e refl
+left-end o (c ∷ cs, e, few) = absurd (omega arith)
+
+pub whole-made : (parts : List Part) (text : List ℕ) → is_whole parts text ≡ true → IsMadeOf parts text
+unfolding is_whole
+whole-made parts text e =
+    let r = parts-read parts text [] (end-left (after parts text) e) in subst (IsMadeOf parts) (sym (r.1 ∙ append-nil r.0)) r.2
+
+pub made-whole : (parts : List Part) (text : List ℕ) → IsGreedy parts → IsMadeOf parts text → is_whole parts text ≡ true
+unfolding is_whole
+made-whole parts text g m =
+    let far = parts-longest parts text [] g m in left-end (after parts text) (subst (λ t. GoesFar (after parts t) []) (append-nil text) far)

@@ -1,5 +1,5 @@
 -- What the lexer computes, as functions on lists. Each reader gives what is left behind its part.
-use Rattle.std.specs.Prelude.{ℕ, zero, suc, Bool, ◌&&◌, ◌||◌, ◌==◌, if◌then◌else◌, List, [], ◌∷◌, Option, Some, None, option_and_then, unwrap_or, codes}
+use Rattle.std.specs.Prelude.{ℕ, zero, suc, Bool, true, false, ◌&&◌, ◌||◌, ◌==◌, if◌then◌else◌, List, [], ◌∷◌, Option, Some, None, option_and_then, unwrap_or, codes}
 use Rattle.std.specs.Option.{option_map, option_or}
 use Rattle.idl_lexer.specs.declared.class.Class.{Class}
 use Rattle.idl_lexer.specs.declared.class.Class.TheVariants.{Blank, NameStart, NameByte, Digit, Single}
@@ -40,6 +40,16 @@ after (literal word ∷ parts) bytes = option_and_then (after parts) (after_lite
 after (counted class count ∷ parts) bytes =
     option_and_then (after parts) (after_counted class count bytes)
 after (run class fits ∷ parts) bytes = option_and_then (after parts) (after_run class fits bytes)
+
+-- whether something is left, and it is nothing
+abbrev pub is_end : Option (List ℕ) → Bool
+is_end None = false
+is_end (Some []) = true
+is_end (Some (_ ∷ _)) = false
+
+-- whether the parts are read and nothing is left behind them
+unfoldable pub is_whole : List Part → List ℕ → Bool
+is_whole parts bytes = is_end (after parts bytes)
 
 -- what is left behind the first `a` that `b` follows
 abbrev pub after_pair : ℕ → ℕ → List ℕ → Option (List ℕ)

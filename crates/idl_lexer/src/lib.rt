@@ -14,4 +14,5 @@ mod token;
 pub use class::Class;
 pub use lexer::lex;
 pub use part::split_run;
+pub use spelling::{is_include, is_native};
 pub use token::{Kind, LexError, Token, Tokens};

@@ -1,8 +1,9 @@
 //! Readers of the spellings of tokens. Each gives what is left behind the longest spelling at the
 //! front.
 
-ghost use Rattle.std.specs.Prelude.{◌≡◌};
+ghost use Rattle.std.specs.Prelude.{◌≡◌, IsTrue};
 ghost use Rattle.std.specs.Option.{option_copied, option_map};
+ghost use Rattle.idl_lexer.specs.Parts.{IsMadeOf};
 ghost use Rattle.idl_lexer.specs.Reading as spec;
 ghost use Rattle.idl_lexer.specs.Spelling.{decimal, hexadecimal, iid, include, native, language};
 
@@ -75,6 +76,36 @@ fn after_native(bytes: &[u8]) -> Option<&[u8]>
     let rest = after_literal(rest, b"(")?;
     let rest = after_some(rest, Class::Parenthesized)?;
     after_literal(rest, b")")
+}
+
+/// Whether a spelling was read, with nothing behind it.
+fn is_end(rest: Option<&[u8]>) -> bool
+    ensures { result ≡ spec.is_end (option_copied rest.entry) }
+{
+    match rest {
+        Some(rest) => rest.is_empty(),
+        None => false,
+    }
+}
+
+/// Whether the bytes are the spelling of an include, all of them.
+#[tactic(auto, using(crate::proofs::Rules::wholes), unfolding(crate::specs::Reading::is_whole))]
+pub fn is_include(bytes: &[u8]) -> bool
+    ensures value { result ≡ spec.is_whole include bytes.now }
+    ensures sound { IsTrue result → IsMadeOf include bytes.now }
+    ensures complete { IsMadeOf include bytes.now → IsTrue result }
+{
+    is_end(after_include(bytes))
+}
+
+/// Whether the bytes are the spelling of a native, all of them.
+#[tactic(auto, using(crate::proofs::Rules::wholes), unfolding(crate::specs::Reading::is_whole))]
+pub fn is_native(bytes: &[u8]) -> bool
+    ensures value { result ≡ spec.is_whole native bytes.now }
+    ensures sound { IsTrue result → IsMadeOf native bytes.now }
+    ensures complete { IsMadeOf native bytes.now → IsTrue result }
+{
+    is_end(after_native(bytes))
 }
 
 /// Behind the first `pair[0]` that `pair[1]` follows.
