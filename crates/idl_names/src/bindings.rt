@@ -64,6 +64,7 @@ pub enum Reading<'a> {
 }
 
 impl Reading<'_> {
+    /// Whether it is a name that is not declared.
     pub fn is_unknown(&self) -> bool
         ensures { result ≡ spec.is_unknown (sense_of self.now) }
     {

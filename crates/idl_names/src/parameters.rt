@@ -61,18 +61,21 @@ pub fn any_repeated(alloc: Global, params: &[ParamDecl]) -> Result<bool, Memory>
 
 // ---- one parameter
 
+/// Whether it has the attribute `array`.
 pub fn is_array(param: &ParamDecl) -> bool
     ensures { result ≡ spec.is_array param.now }
 {
     has(b"array", param.attrs.as_slice())
 }
 
+/// Whether it has the attribute `retval`.
 pub fn is_retval(param: &ParamDecl) -> bool
     ensures { result ≡ spec.is_retval param.now }
 {
     has(b"retval", param.attrs.as_slice())
 }
 
+/// Whether it has the attribute `optional`.
 pub fn is_optional(param: &ParamDecl) -> bool
     ensures { result ≡ spec.is_optional param.now }
 {
@@ -225,24 +228,29 @@ fn is_open_native(names: &Table<'_, Binding<'_>>, param: &ParamDecl) -> bool
 
 // ---- all parameters
 
+/// Whether the type of one of them is a name that is not declared.
 pub fn any_misnamed(names: &Table<'_, Binding<'_>>, params: &[ParamDecl]) -> bool
     ensures { result ≡ list_any (spec.is_misnamed (names_of names.now)) params.now }
 {
     params.iter().any(|param| is_misnamed(names, param))
 }
 
+/// Whether one of them is of type `void`.
 pub fn any_void(params: &[ParamDecl]) -> bool
     ensures { result ≡ list_any spec.is_void_param params.now }
 {
     params.iter().any(|param| is_void_param(param))
 }
 
+/// Whether one of them is a reference to an identifier and not `in`, or a class of strings and
+/// `inout`.
 pub fn any_misdirected(names: &Table<'_, Binding<'_>>, params: &[ParamDecl]) -> bool
     ensures { result ≡ list_any (spec.is_misdirected (names_of names.now)) params.now }
 {
     params.iter().any(|param| is_misdirected(names, param))
 }
 
+/// Whether the `size_is`, `length_is` or `iid_is` of one of them is wrong.
 pub fn any_mismeasured(
     names: &Table<'_, Binding<'_>>,
     named: &Table<'_, Numbered<'_>>,
@@ -256,12 +264,15 @@ pub fn any_mismeasured(
         .any(|param| is_mismeasured(names, named, param))
 }
 
+/// Whether one of them is an array without a size, or of a class of strings or a reference to an
+/// identifier.
 pub fn any_wrong_array(names: &Table<'_, Binding<'_>>, params: &[ParamDecl]) -> bool
     ensures { result ≡ list_any (spec.is_wrong_array (names_of names.now)) params.now }
 {
     params.iter().any(|param| is_wrong_array(names, param))
 }
 
+/// Whether one of them is a plain native without `iid_is`.
 pub fn any_open_native(names: &Table<'_, Binding<'_>>, params: &[ParamDecl]) -> bool
     ensures { result ≡ list_any (spec.is_open_native (names_of names.now)) params.now }
 {
