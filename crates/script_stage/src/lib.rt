@@ -5,9 +5,12 @@ mod data;
 mod errors;
 mod names;
 mod placed;
+mod pokes;
+mod shows;
 mod stages;
+mod words;
 
 pub use errors::StepError;
 pub use names::Names;
-pub use placed::{Kind, Placed};
+pub use placed::{Kind, Placed, Span};
 pub use stages::Stage;

@@ -83,7 +83,7 @@ fn stack_words(alloc: Global, bytes: &[u8]) -> Result<List<Bytes>, Memory>
 }
 
 /// Two hexadecimal digits for each byte. The one error is want of memory.
-fn hex_of_bytes(alloc: Global, bytes: &[u8]) -> Result<Bytes, Memory>
+pub fn hex_of_bytes(alloc: Global, bytes: &[u8]) -> Result<Bytes, Memory>
     ensures { IfOk result (λ word. word ≡ flat_map (hex_digits_fixed 2) bytes.now) }
 {
     let mut word = Bytes::new(alloc);

@@ -7,7 +7,7 @@ mod outs;
 mod refusals;
 mod values;
 
-pub use frames::frame_lines;
+pub use frames::{frame_lines, hex_of_bytes};
 pub use lines::{at_line, echo_line, got_line, refused_line, result_line, slot_line};
 pub use outs::{elements_word, out_line};
 pub use refusals::Refusal;
