@@ -30,7 +30,7 @@ behind conv low at (b ∷ blocks) below placed =
     All-cons (λ (b : Block). low ≤ b.at) b blocks (omega (arith, below, placed.0))
     (behind conv low (at + space_of conv (content_of b.held)) blocks (omega (arith, below)) placed.1)
 
-found-behind : (conv : Conv) (at : ℕ) (blocks : List Block) (p : Block → Bool) (b : Block)
+pub found-behind : (conv : Conv) (at : ℕ) (blocks : List Block) (p : Block → Bool) (b : Block)
     → ArePlaced conv at blocks → find p blocks ≡ Some b → at ≤ b.at
 found-behind conv at blocks p b placed is =
     (first-found p (λ (b : Block). at ≤ b.at) blocks b (behind conv at at blocks (omega arith) placed) is).1
@@ -65,6 +65,14 @@ place-low conv blocks lawful p b is bytes held offset fits =
     let space : space_of conv (content_of b.held) ≡ space_for (length bytes) =
     ap (λ h. space_of conv (content_of h)) held in
     omega (arith, inside, space, space-enough (length bytes), heap-low conv, fits)
+
+-- and no block begins where no address is
+pub begin-low : (conv : Conv) (blocks : List Block) → AreLawful conv blocks → (p : Block → Bool) (b : Block)
+    → find p blocks ≡ Some b → b.at < 2 ^ 64
+begin-low conv blocks lawful p b is =
+    let inside = (first-found p (λ (c : Block). c.at + space_of conv (content_of c.held) ≤ heap_at conv + HEAP_LIMIT) blocks b
+    (before conv (heap_at conv + HEAP_LIMIT) (heap_at conv) blocks (omega (arith, lawful.fits)) lawful.placed) is).1 in
+    omega (arith, inside, heap-low conv)
 
 -- ---- what a block has at an address
 

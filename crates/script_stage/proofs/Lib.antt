@@ -1,6 +1,9 @@
 pub mod Added
+pub mod Counted
 pub mod Doing
 pub mod Each
 pub mod Held
 pub mod Named
+pub mod Numbers
 pub mod Poked
+pub mod Targets

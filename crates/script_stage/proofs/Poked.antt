@@ -13,6 +13,8 @@ use Rattle.call_replies.proofs.Looked.{holds_blocks-written, inside-from}
 use Rattle.script_meaning.specs.Lawful.{IsLawful}
 use Rattle.script_meaning.specs.State.{Name, State, named, with_bytes}
 use Rattle.script_meaning.proofs.Kept.{data-kept}
+use Rattle.script_objects.specs.Known.{AreKnown}
+use Rattle.script_objects.proofs.Kept.{writes-keep}
 use Rattle.script_stage.specs.declared.placed.Kind.TheVariants as kinds
 use Rattle.script_stage.specs.declared.stages.Stage.{Stage}
 use Rattle.script_stage.specs.Standing.{Stands, kind_of, noted, noted_as}
@@ -126,5 +128,8 @@ module _ (old : Stage) (state : State) (stands : Stands old state) (name : Name)
         cells = kept.cells ∙ stands.cells;
         blocks = stands.blocks ∙ sym (noted_as-after state (b.at + offset) w);
         variables = stands.variables;
+        objects = subst (λ k. AreKnown k old.objects (blocks_after state.blocks (b.at + offset) w)) (sym kept.conv)
+            (writes-keep old.machine.conv old.objects state.blocks (b.at + offset) w stands.objects);
+        rules = stands.rules;
         context = stands.context;
       }

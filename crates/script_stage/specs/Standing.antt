@@ -11,6 +11,8 @@ use Rattle.script_meaning.specs.Lawful.{IsLawful}
 use Rattle.script_meaning.specs.Refusing.{◌then◌, there_is}
 use Rattle.script_meaning.specs.State.{Name, State, named}
 use Rattle.script_meaning.specs.Step.{Stepped, data_in}
+use Rattle.script_objects.specs.Known.{AreKnown}
+use Rattle.script_objects.specs.Ruling.{known_rules}
 use Rattle.script_stage.specs.declared.errors.StepError.{StepError}
 use Rattle.script_stage.specs.declared.errors.StepError.TheVariants.{Refused, Memory}
 use Rattle.script_stage.specs.declared.names.Names.{Names}
@@ -48,14 +50,16 @@ data_named state name =
 
 -- ---- stages
 
--- the machine holds the blocks, and no cell is pushed; and the names of blocks and of variables
--- stand for what they do in the state
+-- the machine holds the blocks, and no cell is pushed; the names of blocks and of variables stand
+-- for what they do in the state; and its objects and its rules are those of the state
 pub record Stands (stage : Stage) (state : State) : Type 0 where
   pub lawful : IsLawful stage.machine.conv state
   pub holds : HoldsBlocks stage.machine state.blocks
   pub cells : stage.machine.cells ≡ []
   pub blocks : known stage.blocks ≡ noted_as state
   pub variables : known stage.variables ≡ state.variables
+  pub objects : AreKnown stage.machine.conv stage.objects state.blocks
+  pub rules : known_rules stage.rules ≡ state.rules
   pub context : stage.context ≡ state.context
 
 -- it stands for some state, as a stage that was made and then changed by its methods alone does

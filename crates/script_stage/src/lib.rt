@@ -4,6 +4,7 @@
 mod data;
 mod errors;
 mod names;
+mod objects;
 mod placed;
 mod pokes;
 mod shows;

@@ -60,6 +60,8 @@ returns c = λ state stands.
         cells = stands.cells;
         blocks = stands.blocks;
         variables = stands.variables;
+        objects = stands.objects;
+        rules = stands.rules;
         context = ap unsigned_abs (to_z-of_z w128 number (search rules));
       };
       tells = refl;
