@@ -1,7 +1,6 @@
 -- New objects and forwarders: what their lines do, and how many objects there are.
-use Rattle.std.proofs.Common.{◌≡◌, ◌<◌, ◌≤◌, ◌∙◌, ℕ, ◌+◌, Bool, true, false, cond, List, [], ◌∷◌, ◌++◌, length, Option, Some, None, Ok, Err, Result, is_some, option_map, ap, refl, sym, subst, arith}
+use Rattle.std.proofs.Common.{◌≡◌, ◌<◌, ◌≤◌, ◌∙◌, ℕ, ◌+◌, true, false, cond, List, [], ◌∷◌, length, Option, Some, None, Ok, Err, Result, is_some, ap, refl, sym, arith}
 use Rattle.std.specs.Prelude.{count_by}
-use Rattle.std.proofs.lemmas.Bool.{false≢true}
 use Rattle.std.proofs.lemmas.Grind.{common_steps}
 use Rattle.std.proofs.lemmas.List.Sums.{sum_by-cons}
 use Rattle.call_model.specs.declared.places.Conv.{Conv}
@@ -21,7 +20,7 @@ use Rattle.script_meaning.specs.Step.{Stepped, forwarder_to, has_depth, joins, n
 use Rattle.script_objects.specs.Known.{AreKnown, ObjectsView}
 use Rattle.script_objects.proofs.Kept.{count-among}
 use Rattle.script_stage.specs.Finding.{target_of}
-use Rattle.script_stage.specs.Standing.{noted, noted_as}
+use Rattle.script_stage.specs.Standing.{noted_as}
 use Rattle.script_stage.proofs.Added.{some-noted}
 
 -- ---- how many there are
@@ -115,11 +114,13 @@ module _ (conv : Conv) (state : State) (name target : Name) (own : Option Conv) 
       last b (Err e) fifth = refl
       last b (Ok u) (Err e) = refl
       last b (Ok u) (Ok v) = refl
+
       third_on : (third : Result Block Refusal) (fourth : Result (Unit {0}) Refusal) (fifth : Block → Result (Unit {0}) Refusal)
           → (third then λ object. fourth then λ _. fifth object then λ _. place object)
           ≡ ((third then λ object. fourth then λ _. fifth object then λ _. Ok object) then place)
       third_on (Err e) fourth fifth = refl
       third_on (Ok b) fourth fifth = last b fourth (fifth b)
+
       by_five : (first : Result (Unit {0}) Refusal) (second : Result Block Refusal) (third : Block → Result Block Refusal)
           (fourth : Result (Unit {0}) Refusal) (fifth : Block → Result (Unit {0}) Refusal)
           → (first then λ _. second then λ found. third found then λ object. fourth then λ _. fifth object then λ _. place object)

@@ -1,5 +1,5 @@
 -- The data of a block that a name finds: where it stands among the others, and on the machine.
-use Rattle.std.proofs.Common.{◌≡◌, ◌<◌, ◌≤◌, ◌∙◌, ℕ, ◌+◌, ◌-◌, ◌^◌, Bool, true, false, ◌&&◌, cond, find, List, [], ◌∷◌, length, All, Option, Some, None, is_some, nat_le, nat_lt, if◌then◌else◌, take, ap, refl, sym, subst, arith}
+use Rattle.std.proofs.Common.{◌≡◌, ◌<◌, ◌≤◌, ◌∙◌, ℕ, ◌+◌, ◌-◌, ◌^◌, Bool, true, false, ◌&&◌, cond, find, List, [], ◌∷◌, length, All, Option, Some, None, is_some, nat_lt, if◌then◌else◌, ap, refl, sym, arith}
 use Rattle.std.specs.Prelude.{slice_range}
 use Rattle.std.specs.Option.{option_or}
 use Rattle.std.proofs.Math.Seq.{take-length}

@@ -6,4 +6,5 @@ pub mod Held
 pub mod Named
 pub mod Numbers
 pub mod Poked
+pub mod Ruled
 pub mod Targets

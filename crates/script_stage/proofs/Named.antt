@@ -1,18 +1,17 @@
 -- What depends on the data of the block of a name.
-use Rattle.std.proofs.Common.{◌≡◌, ◌∙◌, ℕ, List, length, Option, Some, None, Ok, Err, Result, option_map, ap, refl, sym, subst}
+use Rattle.std.proofs.Common.{◌≡◌, ◌∙◌, ℕ, List, length, Option, Some, None, Ok, Err, Result, option_map, ap, refl, sym}
 use Rattle.std.specs.Result.{result_err, result_ok}
 use Rattle.std.proofs.lemmas.Option.{none-some, same_Some}
 use Rattle.transcript_text.specs.declared.refusals.Refusal.{Refusal}
 use Rattle.transcript_text.specs.declared.refusals.Refusal.TheVariants as refusal
 use Rattle.call_replies.specs.Blocks.{Block, Held, Data, Object, Forwarder}
 use Rattle.script_meaning.specs.Refusing.{◌then◌, there_is}
-use Rattle.script_meaning.specs.State.{Name, State, named}
 use Rattle.script_meaning.specs.Step.{data_in}
 use Rattle.script_stage.specs.declared.placed.Kind.{Kind}
 use Rattle.script_stage.specs.declared.placed.Kind.TheVariants as kinds
 use Rattle.script_stage.specs.declared.placed.Placed.{Placed}
 use Rattle.script_stage.specs.declared.placed.Span.{Span}
-use Rattle.script_stage.specs.Standing.{data_named, kind_of, noted}
+use Rattle.script_stage.specs.Standing.{kind_of, noted}
 
 -- a refusal is the same where another value would have come
 pub same-refusal : {A : Type 0} (e other : Refusal) → ◌≡◌ {A = Result A Refusal} (Err e) (Err other) → e ≡ other

@@ -1,14 +1,13 @@
 -- Bytes that are written into a block, on the machine and in the state.
-use Rattle.std.proofs.Common.{◌≡◌, ◌≤◌, ◌∙◌, ℕ, ◌+◌, ◌-◌, Bool, true, false, cond, find, List, [], ◌∷◌, length, take, drop, Option, Some, None, Ok, IfOk, option_map, bytes_eq, if◌then◌else◌, ap, refl, sym, subst, arith}
+use Rattle.std.proofs.Common.{◌≡◌, ◌≤◌, ◌∙◌, ℕ, ◌+◌, ◌-◌, Bool, true, false, cond, find, List, [], ◌∷◌, length, Option, Some, option_map, bytes_eq, if◌then◌else◌, ap, refl, sym, subst, arith}
 use Rattle.std.proofs.lemmas.List.{take-append-drop}
 use Rattle.raw_block.specs.Bytes.{overwritten}
-use Rattle.call_model.specs.declared.places.Conv.{Conv}
-use Rattle.object_memory.specs.Heap.{Stores, heap_at, lies_in}
+use Rattle.object_memory.specs.Heap.{Stores, lies_in}
 use Rattle.object_memory.specs.Memory.{MachineView, Inside, is_within, with_cells, with_memory, written}
 use Rattle.object_memory.specs.declared.layout.TheConstants.{CELLS_AT, VTABLE_AT}
 use Rattle.object_memory.proofs.Access.{written-memory}
 use Rattle.object_memory.proofs.Held.{inside-memory}
-use Rattle.call_replies.specs.Blocks.{ArePlaced, Block, Held, Data, Object, Forwarder, HoldsBlocks, block_after, blocks_after, contents, held_after}
+use Rattle.call_replies.specs.Blocks.{Block, Held, Data, Object, Forwarder, HoldsBlocks, block_after, blocks_after, contents, held_after}
 use Rattle.call_replies.proofs.Looked.{holds_blocks-written, inside-from}
 use Rattle.script_meaning.specs.Lawful.{IsLawful}
 use Rattle.script_meaning.specs.State.{Name, State, named, with_bytes}

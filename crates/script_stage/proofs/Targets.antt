@@ -1,6 +1,7 @@
 -- The objects that lines name: what a stage keeps of a block tells whether it is one, and which.
-use Rattle.std.proofs.Common.{◌≡◌, ◌∙◌, ℕ, Bool, true, false, cond, Option, Some, None, Ok, Err, Result, is_some, option_map, bytes_eq, if◌then◌else◌, ap, refl, sym, subst}
+use Rattle.std.proofs.Common.{◌≡◌, ◌∙◌, ℕ, Bool, true, false, Option, Some, None, Ok, Err, Result, is_some, option_map, bytes_eq, if◌then◌else◌, ap, refl, sym, subst}
 use Rattle.std.specs.Result.{result_ok}
+use Rattle.std.proofs.lemmas.Bool.{false≢true}
 use Rattle.std.proofs.lemmas.Option.{none-some, same_Some}
 use Rattle.call_model.specs.declared.places.Conv.{Conv}
 use Rattle.transcript_text.specs.declared.refusals.Refusal.{Refusal}
@@ -8,13 +9,13 @@ use Rattle.transcript_text.specs.declared.refusals.Refusal.TheVariants as refusa
 use Rattle.call_replies.specs.Blocks.{Block, Held, Data, Object, Forwarder}
 use Rattle.script_meaning.specs.Members.{as_object}
 use Rattle.script_meaning.specs.Refusing.{◌then◌, refuse, require, there_is}
-use Rattle.script_meaning.specs.State.{Name, State, iface_in, is_object, named, number_in, object_numbered}
+use Rattle.script_meaning.specs.State.{Name, State, is_object, named, number_in, object_numbered}
 use Rattle.script_meaning.specs.Step.{has_depth, joins}
 use Rattle.script_stage.specs.declared.placed.Kind.{Kind}
 use Rattle.script_stage.specs.declared.placed.Kind.TheVariants as kinds
 use Rattle.script_stage.specs.declared.placed.Placed.{Placed}
 use Rattle.script_stage.specs.declared.stages.Stage.{Stage}
-use Rattle.script_stage.specs.Finding.{named_object, target_of}
+use Rattle.script_stage.specs.Finding.{target_of}
 use Rattle.script_stage.specs.Standing.{Stands, kind_of, noted, noted_as}
 use Rattle.script_stage.proofs.Added.{some-noted}
 use Rattle.script_stage.proofs.Numbers.{found-numbered}
@@ -34,6 +35,19 @@ kept-some (Some b) kept is = record { block = b; is = refl; noted = same_Some (n
 pub kept-none : (found : Option Block) → None ≡ option_map noted found → found ≡ None
 kept-none None is = refl
 kept-none (Some b) is = absurd (none-some (noted b) is)
+
+pub named-none : (found : Option Block) → is_some (option_map noted found) ≡ false → found ≡ None
+named-none None is = refl
+named-none (Some b) is = absurd (false≢true (sym is))
+
+-- some block is found
+pub record IsThere (found : Option Block) : Type 0 where
+  pub block : Block
+  pub is : found ≡ Some block
+
+pub named-some : (found : Option Block) → is_some (option_map noted found) ≡ true → IsThere found
+named-some None is = absurd (false≢true is)
+named-some (Some b) is = record { block = b; is = refl }
 
 abbrev is_object_kind : Kind → Bool
 is_object_kind (kinds.Data length) = false
@@ -139,12 +153,14 @@ module _ (conv : Conv) (state : State) (name target : Name) (own : Option Conv) 
           (refl, ap (has_depth conv state) (sym (same_Some c b (ap result_ok is))) ∙ same)
       by_tests c true false same is = absurd (none-some b (ap result_ok is))
       by_tests c false short same is = absurd (none-some b (ap result_ok is))
+
       by_object : (third : Result Block Refusal)
           → (third then λ object. require (joins conv own) refusal.Word
           then λ _. require (has_depth conv state object) refusal.Depth then λ _. Ok object) ≡ Ok b
           → (joins conv own ≡ true) × (has_depth conv state b ≡ true)
       by_object (Err e) is = absurd (none-some b (ap result_ok is))
       by_object (Ok c) is = by_tests c (joins conv own) (has_depth conv state c) refl is
+
       by_first : (first : Result (Unit {0}) Refusal) (second : Result Block Refusal)
           → (first then λ _. second then λ found. there_is (as_object found) refusal.NotAnObject
           then λ object. require (joins conv own) refusal.Word

@@ -1,5 +1,5 @@
 -- The objects that lines ask for, as a stage knows them: by their numbers.
-use Rattle.std.specs.Prelude.{◌≡◌, ℕ, is_some, option_and_then, Option, Some, None, Result, Ok, Err}
+use Rattle.std.specs.Prelude.{◌≡◌, ℕ, is_some, option_and_then, Option, Some, Result, Ok, Err}
 use Rattle.call_model.specs.declared.places.Conv.{Conv}
 use Rattle.transcript_text.specs.declared.refusals.Refusal.{Refusal}
 use Rattle.transcript_text.specs.declared.refusals.Refusal.TheVariants as refusal

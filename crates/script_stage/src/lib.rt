@@ -7,6 +7,7 @@ mod names;
 mod objects;
 mod placed;
 mod pokes;
+mod rules;
 mod shows;
 mod stages;
 mod words;

@@ -183,12 +183,7 @@ impl<'a> Stage<'a> {
     }
 
     /// The object of this number, if it has the members of an interface.
-    fn of_iface(
-        &self,
-        typelib: &Typelib<'_>,
-        iface: u16,
-        number: u32,
-    ) -> Result<u32, Refusal>
+    fn of_iface(&self, typelib: &Typelib<'_>, iface: u16, number: u32) -> Result<u32, Refusal>
         ensures { (state : State) (b : Block) → Stands self.now state
             → object_numbered state.blocks number ≡ Some b
             → Finds state (object_of (table_of typelib.now) iface (Some b)) result }

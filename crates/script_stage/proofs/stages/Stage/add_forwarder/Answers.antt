@@ -1,7 +1,7 @@
-use Rattle.std.proofs.Common.{◌≡◌, ◌<◌, ◌≤◌, ◌∙◌, ◌+◌, ◌++◌, ◌∷◌, [], false, is_some, option_map, None, Some, Ok, Err, IfOk, ap, refl, subst, sym, arith}
+use Rattle.std.proofs.Common.{◌≡◌, ◌<◌, ◌≤◌, ◌∙◌, ◌+◌, ◌++◌, ◌∷◌, [], option_map, Some, Err, IfOk, ap, refl, subst, sym, arith}
 use Rattle.std.proofs.lemmas.Bool.{true≢false}
 use Rattle.std.proofs.lemmas.Option.{same_Some}
-use Rattle.std.specs.Prelude.{codes, slice_get}
+use Rattle.std.specs.Prelude.{codes}
 use Rattle.object_memory.specs.declared.layout.TheConstants.{HEAP_LIMIT}
 use Rattle.object_memory.specs.Heap.{HoldsMore, Object as ObjectContent}
 use Rattle.object_memory.specs.Memory.{MachineView, occupied}
@@ -19,8 +19,8 @@ use Rattle.script_objects.proofs.Kept.{objects-few}
 use Rattle.script_stage.specs.declared.placed.Kind.TheVariants as kinds
 use Rattle.script_stage.specs.declared.stages.Stage.{Stage}
 use Rattle.script_stage.specs.Finding.{Finds, IsNumberOf, target_of}
-use Rattle.script_stage.specs.Standing.{TellsAddress, known, noted_as}
-use Rattle.script_stage.proofs.Added.{end-is, none-noted, not_full, occupied-is, stands-more}
+use Rattle.script_stage.specs.Standing.{TellsAddress, known}
+use Rattle.script_stage.proofs.Added.{end-is, not_full, occupied-is, stands-more}
 use Rattle.script_stage.proofs.Counted.{forwarder-full, forwarder-made, forwarder-refused, known-count, machine-count}
 use Rattle.script_stage.proofs.Doing.{does-forward, does-full, does-refused}
 use Rattle.script_stage.proofs.Numbers.{within}

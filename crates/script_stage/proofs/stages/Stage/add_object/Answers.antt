@@ -1,6 +1,5 @@
-use Rattle.std.proofs.Common.{◌≡◌, ◌<◌, ◌≤◌, ◌∙◌, ◌+◌, ◌++◌, ◌∷◌, [], false, is_some, None, Some, Ok, Err, IfOk, ap, refl, subst, sym, arith}
+use Rattle.std.proofs.Common.{◌≡◌, ◌<◌, ◌≤◌, ◌∙◌, ◌+◌, ◌++◌, ◌∷◌, [], false, is_some, Err, IfOk, ap, refl, subst, sym, arith}
 use Rattle.std.specs.Prelude.{codes}
-use Rattle.call_model.specs.Tables.{iface_named}
 use Rattle.lib_model.specs.Table.{table_of}
 use Rattle.object_memory.specs.declared.layout.TheConstants.{HEAP_LIMIT}
 use Rattle.object_memory.specs.Heap.{HoldsMore, Object as ObjectContent}

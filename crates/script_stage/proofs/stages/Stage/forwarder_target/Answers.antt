@@ -1,10 +1,9 @@
-use Rattle.std.proofs.Common.{◌≡◌, ◌∙◌, ◌<◌, ◌≤◌, true, false, is_some, nat_lt, Some, ap, sym, arith}
+use Rattle.std.proofs.Common.{◌≡◌, ◌∙◌, ◌<◌, ◌≤◌, true, false, is_some, nat_lt, ap, sym, arith}
 use Rattle.std.proofs.lemmas.Grind.{common_steps}
 use Rattle.proxy_objects.specs.declared.forwards.TheConstants.{MOST_FORWARDERS}
 use Rattle.script_meaning.specs.Chain.{chain_of, depth}
 use Rattle.script_meaning.specs.State.{named}
 use Rattle.script_meaning.specs.Step.{has_depth, joins}
-use Rattle.script_stage.specs.Standing.{noted_as}
 use Rattle.script_stage.proofs.Targets.{an-object, its-number, kept-none, kept-some, named-numbered, not-object-by, target-data, target-depth, target-found, target-taken, target-unnamed, target-word}
 use Rattle.script_stage.proofs.stages.Stage.forwarder_target.Goals as goal
 

@@ -1,11 +1,10 @@
-use Rattle.std.proofs.Common.{rules, ◌≡◌, ◌<◌, ◌≤◌, ◌∙◌, ℕ, ℤ, pos, negsuc, Some, None, Err, find, ap, refl, subst, sym, arith}
-use Rattle.std.specs.Prelude.{is_none, is_some, slice_get}
+use Rattle.std.proofs.Common.{rules, ◌≡◌, ◌≤◌, ◌∙◌, ℕ, ℤ, pos, negsuc, Option, Some, None, ap, refl, subst, sym, arith}
+use Rattle.std.specs.Prelude.{IsNone, is_some, slice_get}
 use Rattle.std.specs.Int.{w128}
 use Rattle.std.proofs.lemmas.Bool.{false≢true}
 use Rattle.std.proofs.lemmas.Int.{to_z-of_z}
 use Rattle.lib_model.specs.Table.{table_of}
 use Rattle.object_memory.specs.Heap.{heap_at}
-use Rattle.transcript_text.specs.declared.refusals.Refusal.TheVariants as refusal
 use Rattle.script_meaning.specs.Members.{object_of}
 use Rattle.script_meaning.specs.State.{State, number_in, object_at, object_numbered}
 use Rattle.script_objects.proofs.Among.{objects-stand}
@@ -15,6 +14,9 @@ use Rattle.script_stage.specs.Standing.{Stands}
 use Rattle.script_stage.proofs.Held.{begin-low}
 use Rattle.script_stage.proofs.Numbers.{at-number, begins_at, contained, found-begins, found-numbered, none-found}
 use Rattle.script_stage.proofs.stages.Stage.object_at.Goals as goal
+
+none-so : (o : Option ℕ) → o ≡ None → IsNone o
+none-so o is = subst IsNone (sym is) refl
 
 -- no object begins where no address is
 none-beyond : (stage : Stage) (state : State) → Stands stage state → (number : ℤ)
@@ -33,7 +35,7 @@ pub returns-in_default : goal.returns-in_default
 returns-in_default c = λ state stands.
     ap (object_of (table_of c.args.typelib.now) c.args.iface)
     (none-beyond c.args.self.now state stands c.args.address (λ n is.
-    c.address_in.ensures.none (ap is_none c.in_default.is) n
+    c.address_in.ensures.none (none-so c.address_in.result c.in_default.is) n
     (to_z-of_z w128 c.args.address (search rules) ∙ is)))
 
 pub returns-in_default-object_at : goal.returns-in_default-object_at

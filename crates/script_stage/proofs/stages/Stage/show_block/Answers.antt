@@ -1,4 +1,4 @@
-use Rattle.std.proofs.Common.{◌≡◌, Ok, Some, [], bytes_eq, length, refl, sym, subst, ap, ◌∙◌}
+use Rattle.std.proofs.Common.{◌≡◌, Ok, Some, bytes_eq, length, refl, sym, subst, ap, ◌∙◌}
 use Rattle.std.specs.Option.{option_copied}
 use Rattle.object_memory.specs.Heap.{ReadsBlock}
 use Rattle.transcript_text.specs.Texts.{ended}
