@@ -111,24 +111,29 @@ noted_as-after state a w = λ j name. found-after name a w state.blocks j
 
 module _ (old : Stage) (state : State) (stands : Stands old state) (name : Name) (b : Block) (bytes : List ℕ)
     (is : named state name ≡ Some b) (held : b.held ≡ Data bytes) where
-  -- a stage stands for the state with bytes written into the data of a block
-  pub stands-written : (new : MachineView) (a offset : ℕ) (w : List ℕ) (result : Bool) → a ≡ b.at + offset
+  -- bytes that end within the data are written into it
+  pub kept-written : (new : MachineView) (a offset : ℕ) (w : List ℕ) (result : Bool) → a ≡ b.at + offset
       → offset + length w ≤ length bytes → Stores old.machine new a (length w) w result
-      → IsLawful old.machine.conv (with_bytes state (b.at + offset) w)
-      → Stands (record old { machine = new }) (with_bytes state (b.at + offset) w)
-  stands-written new a offset w result at fits stores lawful =
-      let kept = is-written old.machine state.blocks stands.holds (b.at + offset) new w
+      → IsWritten old.machine new (blocks_after state.blocks (b.at + offset) w)
+  kept-written new a offset w result at fits stores =
+      is-written old.machine state.blocks stands.holds (b.at + offset) new w
       (stores.stored ∙ ap (λ k. written old.machine k w) at)
       (λ some. inside-from old.machine state.blocks stands.holds (b.at + offset) (length w)
-      (some-found (λ (c : Block). bytes_eq c.name name) b bytes held state.blocks offset (length w) is some fits)) in
-      record {
-        lawful = subst (λ k. IsLawful k (with_bytes state (b.at + offset) w)) (sym kept.conv) lawful;
-        holds = kept.holds;
-        cells = kept.cells ∙ stands.cells;
-        blocks = stands.blocks ∙ sym (noted_as-after state (b.at + offset) w);
-        variables = stands.variables;
-        objects = subst (λ k. AreKnown k old.objects (blocks_after state.blocks (b.at + offset) w)) (sym kept.conv)
-            (writes-keep old.machine.conv old.objects state.blocks (b.at + offset) w stands.objects);
-        rules = stands.rules;
-        context = stands.context;
-      }
+      (some-found (λ (c : Block). bytes_eq c.name name) b bytes held state.blocks offset (length w) is some fits))
+
+  -- and then a stage stands for the state with these bytes
+  pub stands-written : (new : MachineView) (at : ℕ) (w : List ℕ)
+      → IsWritten old.machine new (blocks_after state.blocks at w)
+      → IsLawful old.machine.conv (with_bytes state at w)
+      → Stands (record old { machine = new }) (with_bytes state at w)
+  stands-written new at w kept lawful = record {
+    lawful = subst (λ k. IsLawful k (with_bytes state at w)) (sym kept.conv) lawful;
+    holds = kept.holds;
+    cells = kept.cells ∙ stands.cells;
+    blocks = stands.blocks ∙ sym (noted_as-after state at w);
+    variables = stands.variables;
+    objects = subst (λ k. AreKnown k old.objects (blocks_after state.blocks at w)) (sym kept.conv)
+        (writes-keep old.machine.conv old.objects state.blocks at w stands.objects);
+    rules = stands.rules;
+    context = stands.context;
+  }

@@ -66,12 +66,14 @@ pub record Stands (stage : Stage) (state : State) : Type 0 where
 abbrev pub IsStanding : Stage → Type 0
 IsStanding stage = (state : State) × Stands stage state
 
--- what a line asks for was done, it tells this, and the stage stands for the state that it leaves
+-- what a line asks for was done, it tells this, and the stage stands for the state that it leaves,
+-- under the convention that it had
 pub record IsDone {A : Type 0} (Tells : A → List ℕ → Type 0) (asked : Result Stepped Refusal)
-    (new : Stage) (value : A) : Type 0 where
+    (old new : Stage) (value : A) : Type 0 where
   pub stepped : Stepped
   pub is : asked ≡ Ok stepped
   pub stands : Stands new stepped.state
+  pub conv : new.machine.conv ≡ old.machine.conv
   pub tells : Tells value stepped.text
   pub quiet : stepped.sights ≡ []
 
@@ -80,7 +82,7 @@ abbrev pub Does : {A : Type 0} → (Tells : A → List ℕ → Type 0)
     → (asked : State → Result Stepped Refusal)
     → (old new : Stage) → Result A StepError → Type 0
 Does Tells asked old new (Ok value) =
-    (state : State) → Stands old state → IsDone Tells (asked state) new value
+    (state : State) → Stands old state → IsDone Tells (asked state) old new value
 Does Tells asked old new (Err (Refused e)) =
     (new ≡ old) × ((state : State) → Stands old state → asked state ≡ Err e)
 Does Tells asked old new (Err Memory) = Unit {0}

@@ -84,6 +84,7 @@ returns c = λ state stands.
           same refl
           (data-adds-none conv old.objects state.blocks stands.objects name (next_at conv state) bytes) refl refl
           (none-noted (noted_as state name) free) lawful;
+      conv = ap (λ (m : MachineView). m.conv) c.in_ok-at.ensures.added;
       tells = ap (λ k. ended (codes "at " ++ hex_digits k)) (sym at);
       quiet = refl;
     }

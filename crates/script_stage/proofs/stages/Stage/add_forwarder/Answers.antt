@@ -168,6 +168,7 @@ returns c = λ state stands.
           same refl objects refl refl
           (target-free conv state name c.args.target.now own object found.is)
           lawful;
+      conv = ap (λ (m : MachineView). m.conv) c.in_ok-at.ensures.added;
       tells = ap (λ k. ended (codes "at " ++ hex_digits k)) (sym at);
       quiet = refl;
     }

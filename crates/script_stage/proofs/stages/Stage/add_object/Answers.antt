@@ -115,6 +115,7 @@ returns c = λ state stands.
           more
           (ap (λ (m : MachineView). m.cells) c.in_ok-at.ensures.added)
           same refl objects refl refl (none-noted (noted_as state name) free) lawful;
+      conv = ap (λ (m : MachineView). m.conv) c.in_ok-at.ensures.added;
       tells = ap (λ k. ended (codes "at " ++ hex_digits k)) (sym at);
       quiet = refl;
     }

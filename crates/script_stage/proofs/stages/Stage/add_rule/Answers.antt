@@ -171,6 +171,7 @@ returns c = λ state stands.
         rules = c.in_ok-put.ensures.ok ∙ (λ j. ruled (stands.rules j) (number j) (c.slot.ensures j) rule);
         context = stands.context;
       };
+      conv = refl;
       tells = refl;
       quiet = refl;
     }

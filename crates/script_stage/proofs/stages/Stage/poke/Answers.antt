@@ -11,7 +11,7 @@ use Rattle.script_stage.specs.Standing.{TellsDone}
 use Rattle.script_stage.proofs.Doing.{does-refused}
 use Rattle.script_stage.proofs.Held.{place-low}
 use Rattle.script_stage.proofs.Named.{all-refused, data-there, has-data}
-use Rattle.script_stage.proofs.Poked.{stands-written}
+use Rattle.script_stage.proofs.Poked.{kept-written, stands-written}
 use Rattle.script_stage.proofs.stages.Stage.poke.Goals as goal
 
 pub returns-in_err-data : goal.returns-in_err-data
@@ -81,12 +81,15 @@ returns c = λ state stands.
     let lawful : IsLawful conv (with_bytes state (has.block.at + offset) bytes) =
     subst (λ r. IfOk r (λ stepped. IsLawful conv stepped.state)) is
     (poke-keeps conv state stands.lawful name offset bytes) in
+    let written = kept-written old state stands name has.block has.bytes has.is has.held c.store_bytes.new.self
+    (c.in_ok-data.data.at + c.from-offset.result) offset bytes c.store_bytes.result
+    (omega (arith, has.at, c.from-offset.ensures)) within c.store_bytes.ensures.stores in
     record {
       stepped = done (with_bytes state (has.block.at + offset) bytes);
       is = is;
       stands = stands-written old state stands name has.block has.bytes has.is has.held c.store_bytes.new.self
-          (c.in_ok-data.data.at + c.from-offset.result) offset bytes c.store_bytes.result
-          (omega (arith, has.at, c.from-offset.ensures)) within c.store_bytes.ensures.stores lawful;
+          (has.block.at + offset) bytes written lawful;
+      conv = written.conv;
       tells = refl;
       quiet = refl;
     }

@@ -64,6 +64,7 @@ returns c = λ state stands.
         rules = stands.rules;
         context = ap unsigned_abs (to_z-of_z w128 number (search rules));
       };
+      conv = refl;
       tells = refl;
       quiet = refl;
     }

@@ -39,6 +39,7 @@ returns c = λ state stands.
       stepped = quiet state (ended (bytes_text has.bytes));
       is = data-there found c.in_ok-data.data has (λ b bytes. Ok (quiet state (ended (bytes_text bytes))));
       stands = stands;
+      conv = refl;
       tells = sym (c.in_ok-bytes_line.ensures ∙ ap (λ bytes. ended (bytes_text bytes)) same);
       quiet = refl;
     }

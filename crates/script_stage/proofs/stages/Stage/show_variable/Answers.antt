@@ -25,6 +25,7 @@ returns c = λ state stands.
       stepped = quiet state (ended (decimal_text c.in-Some.number));
       is = rw some refl;
       stands = stands;
+      conv = refl;
       tells = sym (c.in_ok-append.ensures.ok ∙ ap ended (c.in_ok-line.ensures
           ∙ ap decimal_text (to_z-of_z w128 c.in-Some.number (search rules))));
       quiet = refl;
