@@ -100,7 +100,7 @@ bound : (at a : ℕ) (w old : List ℕ) → lies_in at old a (length w) ≡ true
     → (a - at) + length w ≤ length old
 bound at a w old is = grind (arith, common_steps, is)
 
-data-kept : (at a : ℕ) (w old : List ℕ) (P : Held → Type 0)
+pub data-kept : (at a : ℕ) (w old : List ℕ) (P : Held → Type 0)
     → ((bytes : List ℕ) → length bytes ≡ length old → P (Data bytes))
     → P (held_after at (Data old) a w)
 data-kept at a w old P each = by_test (lies_in at old a (length w)) refl

@@ -138,7 +138,7 @@ module _ (conv : Conv) (state : State) (lawful : IsLawful conv state) where
   object-is found object false is = absurd (none-some object is)
 
   -- an object that a line names has a smaller number than the next one
-  number-known : (target : Name) (found object : Block) → named state target ≡ Some found
+  pub number-known : (target : Name) (found object : Block) → named state target ≡ Some found
       → as_object found ≡ Some object → number_in object.held < next_number state
   number-known target found object known is =
       let same = object-is found object (is_object found.held) is in
@@ -147,7 +147,7 @@ module _ (conv : Conv) (state : State) (lawful : IsLawful conv state) where
       subst (λ (b : Block). number_in b.held < next_number state) same.0
       (omega (arith, below same.1))
 
-  forwarder-keeps : (name target : Name) (own : Option Conv)
+  pub forwarder-keeps : (name target : Name) (own : Option Conv)
       → Keeps (new_forwarder conv state name target own)
   unfolding new_forwarder
   forwarder-keeps name target own =
@@ -165,7 +165,7 @@ module _ (conv : Conv) (state : State) (lawful : IsLawful conv state) where
 
   -- ---- the other lines
 
-  rule-keeps : (table : Table) (name : Name) (member : MemberRef) (items : List ReplyItem)
+  pub rule-keeps : (table : Table) (name : Name) (member : MemberRef) (items : List ReplyItem)
       → Keeps (new_rule table state name member items)
   unfolding new_rule
   rule-keeps table name member items =
@@ -188,7 +188,7 @@ module _ (conv : Conv) (state : State) (lawful : IsLawful conv state) where
   variable-keeps name =
       if_then _ (there_is (state.variables name) refusal.NoName) _ (λ number known. lawful)
 
-  poke-keeps : (name : Name) (offset : ℕ) (bytes : List ℕ) → Keeps (poked state name offset bytes)
+  pub poke-keeps : (name : Name) (offset : ℕ) (bytes : List ℕ) → Keeps (poked state name offset bytes)
   unfolding poked
   poke-keeps name offset bytes =
       if_then _ (there_is (named state name) refusal.NoName) _ (λ b known.
@@ -202,7 +202,7 @@ module _ (conv : Conv) (state : State) (lawful : IsLawful conv state) where
   fits-word : (n : ℤ) → in_range conv Ptr n ≡ true → FitsWord conv (unsigned_abs n)
   fits-word n is = word-fits conv n is
 
-  context-keeps : (value : ValueWord) → Keeps (new_context conv state value)
+  pub context-keeps : (value : ValueWord) → Keeps (new_context conv state value)
   unfolding new_context
   context-keeps value =
       if_then _ (there_is (number_of_value state value) refusal.NoName) _ (λ number known.

@@ -26,6 +26,8 @@ use Rattle.script_meaning.specs.Lawful.{IsLawful}
 use Rattle.script_meaning.specs.Step.{Stepped, new_data, placed_block}
 use Rattle.script_meaning.specs.Refusing.{◌then◌, refuse, require}
 use Rattle.script_meaning.specs.Words.{bytes_of, length_of}
+use Rattle.script_objects.specs.Known.{AreKnown}
+use Rattle.script_objects.specs.Ruling.{known_rules}
 use Rattle.script_stage.specs.declared.placed.Placed.{Placed}
 use Rattle.script_stage.specs.declared.stages.Stage.{Stage}
 use Rattle.script_stage.specs.Standing.{Stands, known, noted, noted_as}
@@ -110,10 +112,12 @@ module _ (old new : Stage) (state : State) (stands : Stands old state) (name : N
       → HoldsMore old.machine new.machine (content_of held)
       → new.machine.cells ≡ old.machine.cells
       → known new.blocks ≡ learned (known old.blocks) name (noted block)
-      → known new.variables ≡ known old.variables → new.context ≡ old.context
+      → known new.variables ≡ known old.variables
+      → AreKnown old.machine.conv new.objects more_blocks.blocks → known_rules new.rules ≡ known_rules old.rules
+      → new.context ≡ old.context
       → noted_as state name ≡ None → IsLawful old.machine.conv more_blocks
       → Stands new more_blocks
-  stands-more conv more cells blocks variables context free lawful = record {
+  stands-more conv more cells blocks variables objects rules context free lawful = record {
     lawful = subst (λ k. IsLawful k more_blocks) (sym conv) lawful;
     holds = record {
       heap = subst (Holds new.machine) (sym (contents-push state.blocks block))
@@ -123,12 +127,14 @@ module _ (old new : Stage) (state : State) (stands : Stands old state) (name : N
     cells = cells ∙ stands.cells;
     blocks = blocks ∙ ap (λ f. learned f name (noted block)) stands.blocks ∙ names-push state block free;
     variables = variables ∙ stands.variables;
+    objects = subst (λ k. AreKnown k new.objects more_blocks.blocks) (sym conv) objects;
+    rules = rules ∙ stands.rules;
     context = context ∙ stands.context;
   }
 
 -- ---- the answers of a new data block
 
-some-noted : (state : State) (name : Name) → is_some (noted_as state name) ≡ is_some (named state name)
+pub some-noted : (state : State) (name : Name) → is_some (noted_as state name) ≡ is_some (named state name)
 some-noted state name = by_found (named state name)
   where
     by_found : (o : Option Block) → is_some (option_map noted o) ≡ is_some o

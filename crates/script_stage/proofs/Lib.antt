@@ -1,1 +1,10 @@
 pub mod Added
+pub mod Counted
+pub mod Doing
+pub mod Each
+pub mod Held
+pub mod Named
+pub mod Numbers
+pub mod Poked
+pub mod Ruled
+pub mod Targets

@@ -1,6 +1,9 @@
 ghost use Rattle.std.specs.Prelude.{◌≡◌};
 ghost use Rattle.script_stage.specs.declared.errors.StepError.TheVariants as step_errors;
+ghost use Rattle.script_stage.specs.Errors.{of_forward, of_heap};
 
+use object_memory::HeapError;
+use proxy_objects::ForwardError;
 use std::alloc::AllocError;
 use transcript_text::Refusal;
 
@@ -34,5 +37,27 @@ impl From<Refusal> for StepError {
 
     fn from(refusal: Refusal) -> StepError {
         StepError::Refused(refusal)
+    }
+}
+
+impl From<HeapError> for StepError {
+    ghost from_gives = { λ error e. e ≡ of_heap error };
+
+    fn from(error: HeapError) -> StepError {
+        match error {
+            HeapError::Full => StepError::Refused(Refusal::Heap),
+            HeapError::Memory => StepError::Memory,
+        }
+    }
+}
+
+impl From<ForwardError> for StepError {
+    ghost from_gives = { λ error e. e ≡ of_forward error };
+
+    fn from(error: ForwardError) -> StepError {
+        match error {
+            ForwardError::Depth => StepError::Refused(Refusal::Depth),
+            ForwardError::Memory => StepError::Memory,
+        }
     }
 }

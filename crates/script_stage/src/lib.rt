@@ -4,10 +4,15 @@
 mod data;
 mod errors;
 mod names;
+mod objects;
 mod placed;
+mod pokes;
+mod rules;
+mod shows;
 mod stages;
+mod words;
 
 pub use errors::StepError;
 pub use names::Names;
-pub use placed::{Kind, Placed};
+pub use placed::{Kind, Placed, Span};
 pub use stages::Stage;

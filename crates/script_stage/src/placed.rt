@@ -13,3 +13,10 @@ pub struct Placed {
     pub at: u64,
     pub kind: Kind,
 }
+
+/// Bytes that stand one after the other: the address of the first, and how many there are.
+#[derive(Clone, Copy, Debug, PartialEq, Eq)]
+pub struct Span {
+    pub at: u64,
+    pub length: u64,
+}

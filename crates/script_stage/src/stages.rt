@@ -13,7 +13,8 @@ use crate::names::Names;
 use crate::placed::{Kind, Placed};
 use call_model::{Conv, word_of};
 use call_scripts::{Target, ValueWord};
-use object_memory::{HeapError, Machine};
+use object_memory::Machine;
+use script_objects::{Objects, Rules};
 use std::alloc::Global;
 use transcript_text::Refusal;
 use xp_base::Memory;
@@ -27,6 +28,10 @@ pub struct Stage<'a> {
     pub blocks: Names<'a, Placed>,
     /// The numbers that came out of calls, by the names of variables.
     pub variables: Names<'a, i128>,
+    /// The objects that were made, by number.
+    pub objects: Objects,
+    /// The rules by which objects reply.
+    pub rules: Rules,
     /// The address that calls pass as their context.
     pub context: u64,
 }
@@ -41,6 +46,8 @@ impl<'a> Stage<'a> {
             machine: Machine::new(alloc, conv)?,
             blocks: Names::new(alloc),
             variables: Names::new(alloc),
+            objects: Objects::new(alloc),
+            rules: Rules::new(alloc),
             context: 0,
         })
     }
@@ -98,11 +105,7 @@ impl<'a> Stage<'a> {
         if self.named(name).is_some() {
             return Err(StepError::Refused(Refusal::Taken));
         }
-        let at = match self.machine.add_block(bytes) {
-            Ok(at) => at,
-            Err(HeapError::Full) => return Err(StepError::Refused(Refusal::Heap)),
-            Err(HeapError::Memory) => return Err(StepError::Memory),
-        };
+        let at = self.machine.add_block(bytes)?;
         let kind = Kind::Data {
             length: bytes.len() as u64,
         };

@@ -10,5 +10,7 @@ returns-clause-stands c = record {
   cells = ap (λ (m : MachineView). m.cells) c.in_ok-new.ensures.fresh;
   blocks = c.new-2.ensures;
   variables = c.new-3.ensures;
+  objects = c.new-4.ensures.known c.in_ok-new.field-0.conv;
+  rules = c.new-5.ensures;
   context = refl;
 }
