@@ -1,3 +1,5 @@
+//! The closures of roots, and the faults of those that have none.
+
 ghost use Rattle.std.specs.Prelude.{None};
 
 use idl_grammar::ClosedFile;
@@ -10,9 +12,11 @@ use xp_base::{
     dec_text,
 };
 
-/// Files, names to begin with, and what the closure comes to: the names in order, or its fault.
+/// What it is of, files, names to begin with, and what the closure comes to: the names in order, or
+/// its fault.
 #[derive(Clone, Copy)]
 struct Row<'a> {
+    name: &'a str,
     files: &'a [(&'a [u8], &'a [u8])],
     roots: &'a [&'a [u8]],
     outcome: &'a [u8],
@@ -49,11 +53,12 @@ fn outcome<S: Source>(
     rt: &impl Abort,
     alloc: Global,
     files: &mut S,
-    roots: &List<Bytes>,
+    roots: &[&[u8]],
 ) -> Result<Bytes, Memory> {
+    let roots = names_of(alloc, roots)?;
     assert!(rt; roots.len() <= 65_535);
     let mut text = Bytes::new(alloc);
-    match closure(alloc, files, roots) {
+    match closure(alloc, files, &roots) {
         Ok(list) => add_names(&mut text, list.as_slice())?,
         Err(fault) => add_fault(alloc, &mut text, fault)?,
     }
@@ -76,86 +81,96 @@ fn names_of(alloc: Global, names: &[&[u8]]) -> Result<List<Bytes>, Memory> {
     Ok(list)
 }
 
+/// What was found of these files is what was wanted.
+fn check(rt: &impl Abort, name: &str, found: &[u8], wanted: &[u8]) {
+    assert_eq!(rt; found, wanted, "of {name}");
+}
+
+/// Files, and what their closures come to.
+const ROWS: [Row<'static>; 11] = [
+    Row {
+        name: "two files that include each other",
+        files: &[(b"a", b"#include \"b\""), (b"b", b"#include \"a\"")],
+        roots: &[b"a"],
+        outcome: b" b a",
+    },
+    Row {
+        name: "a root that is given twice",
+        files: &[(b"a", b"")],
+        roots: &[b"a", b"a"],
+        outcome: b" a",
+    },
+    Row {
+        name: "a root that another root includes, behind it",
+        files: &[(b"a", b"#include \"b\""), (b"b", b"")],
+        roots: &[b"a", b"b"],
+        outcome: b" b a",
+    },
+    Row {
+        name: "a root that another root includes, before it",
+        files: &[(b"a", b"#include \"b\""), (b"b", b"")],
+        roots: &[b"b", b"a"],
+        outcome: b" b a",
+    },
+    Row {
+        name: "in order of mention, and depth first",
+        files: &[
+            (b"a", b"#include \"b\"\n#include \"c\"\n#include \"d\""),
+            (b"b", b"#include \"d\""),
+            (b"c", b""),
+            (b"d", b""),
+        ],
+        roots: &[b"a"],
+        outcome: b" d b c a",
+    },
+    Row {
+        name: "no roots",
+        files: &[],
+        roots: &[],
+        outcome: b"",
+    },
+    Row {
+        name: "an absent root",
+        files: &[],
+        roots: &[b"a"],
+        outcome: b"absent a:0",
+    },
+    Row {
+        name: "an absent include",
+        files: &[(b"a", b"#include \"c\"")],
+        roots: &[b"a"],
+        outcome: b"absent c:0",
+    },
+    Row {
+        name: "a fault in an included file before an absent later include",
+        files: &[
+            (b"a", b"#include \"b\"\n#include \"c\""),
+            (b"b", b"\ninterface {"),
+        ],
+        roots: &[b"a"],
+        outcome: b"syntax b:2",
+    },
+    Row {
+        name: "a place with no token before an absent later include",
+        files: &[(b"a", b"#include \"b\"\n#include \"c\""), (b"b", b"?")],
+        roots: &[b"a"],
+        outcome: b"token b:1",
+    },
+    Row {
+        name: "a file's own fault before those of its includes",
+        files: &[(b"a", b"#include \"c\"\ninterface")],
+        roots: &[b"a"],
+        outcome: b"syntax a:2",
+    },
+];
+
 #[test]
 fn closures_come_to_these(rt: HostRuntime) -> Result<(), Fail> {
     let alloc = rt.alloc();
-    let rows = [
-        // Two files that include each other.
-        Row {
-            files: &[(b"a", b"#include \"b\""), (b"b", b"#include \"a\"")],
-            roots: &[b"a"],
-            outcome: b" b a",
-        },
-        // A root that is given twice.
-        Row {
-            files: &[(b"a", b"")],
-            roots: &[b"a", b"a"],
-            outcome: b" a",
-        },
-        // A root that another root includes, behind it and before it.
-        Row {
-            files: &[(b"a", b"#include \"b\""), (b"b", b"")],
-            roots: &[b"a", b"b"],
-            outcome: b" b a",
-        },
-        Row {
-            files: &[(b"a", b"#include \"b\""), (b"b", b"")],
-            roots: &[b"b", b"a"],
-            outcome: b" b a",
-        },
-        // In order of mention, and depth first.
-        Row {
-            files: &[
-                (b"a", b"#include \"b\"\n#include \"c\"\n#include \"d\""),
-                (b"b", b"#include \"d\""),
-                (b"c", b""),
-                (b"d", b""),
-            ],
-            roots: &[b"a"],
-            outcome: b" d b c a",
-        },
-        Row {
-            files: &[],
-            roots: &[],
-            outcome: b"",
-        },
-        // An absent root, and an absent include.
-        Row {
-            files: &[],
-            roots: &[b"a"],
-            outcome: b"absent a:0",
-        },
-        Row {
-            files: &[(b"a", b"#include \"c\"")],
-            roots: &[b"a"],
-            outcome: b"absent c:0",
-        },
-        // A fault in an included file comes before an absent later include.
-        Row {
-            files: &[
-                (b"a", b"#include \"b\"\n#include \"c\""),
-                (b"b", b"\ninterface {"),
-            ],
-            roots: &[b"a"],
-            outcome: b"syntax b:2",
-        },
-        Row {
-            files: &[(b"a", b"#include \"b\"\n#include \"c\""), (b"b", b"?")],
-            roots: &[b"a"],
-            outcome: b"token b:1",
-        },
-        // A file's own fault comes before those of its includes.
-        Row {
-            files: &[(b"a", b"#include \"c\"\ninterface")],
-            roots: &[b"a"],
-            outcome: b"syntax a:2",
-        },
-    ];
-    for row in rows {
+    for row in &ROWS {
         let mut files = source_of(alloc, row.files)?;
-        let roots = names_of(alloc, row.roots)?;
-        let outcome = outcome(&rt, alloc, &mut files, &roots)?;
-        assert_eq!(rt; outcome.as_slice(), row.outcome);
+        let found = outcome(&rt, alloc, &mut files, row.roots)?;
+        check(&rt, row.name, found.as_slice(), row.outcome);
     }
     Ok(())
 }
@@ -168,9 +183,8 @@ fn a_source_fails_at_its_second_fetch(rt: HostRuntime) -> Result<(), Fail> {
     let mut files = MemSource::new(alloc, fails);
     files.add(b"a", b"#include \"b\"")?;
     files.add(b"b", b"")?;
-    let roots = names_of(alloc, &[b"a"])?;
-    let outcome = outcome(&rt, alloc, &mut files, &roots)?;
-    assert_eq!(rt; outcome.as_slice(), b"failed b:0".as_slice());
+    let found = outcome(&rt, alloc, &mut files, &[b"a"])?;
+    check(&rt, "a fetch that fails", found.as_slice(), b"failed b:0");
     Ok(())
 }
 
@@ -184,23 +198,24 @@ fn spaces(alloc: Global, count: usize) -> Result<Bytes, Memory> {
     Ok(text)
 }
 
+/// The names of files, of which sixteen are as long as a file may be.
+const SEVENTEEN: [&[u8]; 17] = [
+    b"a", b"b", b"c", b"d", b"e", b"f", b"g", b"h", b"i", b"j", b"k", b"l", b"m", b"n", b"o", b"p",
+    b"q",
+];
+
 #[test]
 fn sixteen_mebibytes_are_the_most_together(rt: HostRuntime) -> Result<(), Fail> {
     let alloc = rt.alloc();
-    let names: [&[u8]; 17] = [
-        b"a", b"b", b"c", b"d", b"e", b"f", b"g", b"h", b"i", b"j", b"k", b"l", b"m", b"n", b"o",
-        b"p", b"q",
-    ];
     let full = spaces(alloc, 1024)?;
-    assert_eq!(rt; full.as_slice().len(), MAX_TEXT);
+    assert!(rt; full.as_slice().len() == MAX_TEXT);
     let mut files = CalmSource::new(alloc);
-    for name in names {
-        files.add(name, full.as_slice())?;
+    for name in &SEVENTEEN {
+        files.add(*name, full.as_slice())?;
     }
     files.add(b"q", b" ")?;
-    let roots = names_of(alloc, &names)?;
-    let outcome = outcome(&rt, alloc, &mut files, &roots)?;
-    assert_eq!(rt; outcome.as_slice(), b"long q:0".as_slice());
+    let found = outcome(&rt, alloc, &mut files, &SEVENTEEN)?;
+    check(&rt, "one byte too many", found.as_slice(), b"long q:0");
     Ok(())
 }
 
@@ -211,9 +226,8 @@ fn a_file_has_at_most_a_mebibyte(rt: HostRuntime) -> Result<(), Fail> {
     text.append(b" ")?;
     let mut files = CalmSource::new(alloc);
     files.add(b"a", text.as_slice())?;
-    let roots = names_of(alloc, &[b"a"])?;
-    let outcome = outcome(&rt, alloc, &mut files, &roots)?;
-    assert_eq!(rt; outcome.as_slice(), b"long a:0".as_slice());
+    let found = outcome(&rt, alloc, &mut files, &[b"a"])?;
+    check(&rt, "a mebibyte and a byte", found.as_slice(), b"long a:0");
     Ok(())
 }
 
@@ -279,23 +293,25 @@ impl Source for Many {
     }
 }
 
+/// The names of all of these files, each behind a space.
+fn all_names(alloc: Global) -> Result<Bytes, Memory> {
+    let mut text = Bytes::new(alloc);
+    for number in 0..MANY + 1 {
+        let name = dec_text(alloc, number as i128)?;
+        text.append(b" ")?;
+        text.append(name.as_slice())?;
+    }
+    Ok(text)
+}
+
 #[test]
 fn many_includes(rt: HostRuntime) -> Result<(), Fail> {
-    let alloc = rt.alloc();
-    for chain in [true, false] {
-        let mut files = Many { chain };
-        let roots = names_of(alloc, &[b"20000"])?;
-        assert!(rt; roots.len() <= 65_535);
-        let closed = closure(alloc, &mut files, &roots)?;
-        assert_eq!(rt; closed.len(), 20_001, "in a chain: {chain}");
-        let Some(first) = closed.get(0) else {
-            return Ok(assert!(rt; false, "no file"));
-        };
-        assert_eq!(rt;
-            first.name.as_slice(),
-            b"0".as_slice(),
-            "in a chain: {chain}"
-        );
+    let wanted = all_names(rt.alloc())?;
+    for chain in &[true, false] {
+        let mut files = Many { chain: *chain };
+        let found = outcome(&rt, rt.alloc(), &mut files, &[b"20000"])?;
+        let is_told = found.as_slice() == wanted.as_slice();
+        assert!(rt; is_told, "in a chain: {chain}");
     }
     Ok(())
 }

@@ -1,10 +1,12 @@
+//! The trees of texts, and the faults of those that have none.
+
 use crate::outline::outline;
 use idl_grammar::{SyntaxError, parse};
-use idl_lexer::lex;
+use idl_lexer::{Kind, Token, Tokens, lex};
 use std::alloc::Global;
 use std::process::Abort;
 use std::test::Fail;
-use xp_base::{Bytes, MAX_TEXT};
+use xp_base::{Bytes, List, MAX_TEXT};
 
 /// A text with every keyword and every mark.
 const EVERY_SYMBOL: &[u8] = b"typedef unsigned long a;
@@ -30,88 +32,74 @@ const OUTLINE_OF_EVERY_SYMBOL: &[u8] = b"
 Inward Double e, Inward Char f, Inward WChar g, Inward CString h, Inward WString i, Inward q j
 10: method Long t";
 
-/// A text and the outline of its tree.
-#[derive(Clone, Copy)]
-struct Row<'a> {
-    text: &'a [u8],
-    outline: &'a [u8],
-}
-
-/// What comes of a text: the outline of its tree, or the place of its fault, which is a token, and
-/// its line.
-fn read(rt: &impl Abort, alloc: Global, text: &[u8]) -> Result<Result<Bytes, (u32, u32)>, Fail> {
-    assert!(rt; text.len() <= MAX_TEXT);
-    let tokens = lex(alloc, text)?;
-    match parse(alloc, &tokens) {
-        Ok(file) => Ok(Ok(outline(alloc, &file)?)),
-        Err(SyntaxError::At { at, line }) => Ok(Err((at, line))),
+/// What comes of tokens, in words: the outline of their tree, or the token of their fault and its
+/// line.
+fn told_of(rt: &impl Abort, alloc: Global, tokens: &Tokens) -> Result<Bytes, Fail> {
+    assert!(rt; tokens.list.len() <= MAX_TEXT);
+    match parse(alloc, tokens) {
+        Ok(file) => Ok(outline(alloc, &file)?),
+        Err(SyntaxError::At { at, line }) => {
+            let fault = format!(in alloc; "fault at {at} {line}")?;
+            Ok(Bytes::copy(alloc, fault.as_bytes())?)
+        }
         Err(SyntaxError::Memory) => Err(SyntaxError::Memory)?,
     }
 }
 
-#[test]
-fn trees_have_these_outlines(rt: HostRuntime) -> Result<(), Fail> {
-    let rows = [
-        Row {
-            text: EVERY_SYMBOL,
-            outline: OUTLINE_OF_EVERY_SYMBOL,
-        },
-        Row {
-            text: b"",
-            outline: b"",
-        },
-        Row {
-            text: b"#include \"a b\"
+/// What comes of a text.
+fn told(rt: &impl Abort, alloc: Global, text: &[u8]) -> Result<Bytes, Fail> {
+    assert!(rt; text.len() <= MAX_TEXT);
+    let tokens = lex(alloc, text)?;
+    told_of(rt, alloc, &tokens)
+}
+
+/// What was found of a text is what was wanted.
+fn check(rt: &impl Abort, text: &[u8], found: &[u8], wanted: &[u8]) {
+    assert_eq!(rt; found, wanted, "of {text:?}");
+}
+
+/// Texts, each with what comes of it.
+const TEXTS: [(&[u8], &[u8]); 13] = [
+    (EVERY_SYMBOL, OUTLINE_OF_EVERY_SYMBOL),
+    (b"", b""),
+    (
+        b"#include \"a b\"
 %{ x %}
 native N ( ns * );
 [x,
 y(z)] interface i : b { };",
-            outline: b"
+        b"
 1: include a b
 2: code
 3: native N is  ns * 
 4: @x @y word z interface i : b",
-        },
-        Row {
-            text: b"interface a; interface b { %{ %} C++ };",
-            outline: b"\n1: forward a\n1: interface b\n1: code",
-        },
-        Row {
-            text: b"interface a { const long k = 1 << 3 | 4 + 2 * 3; };",
-            outline: b"\n1: interface a\n1: const Long k = 1 3 Shl 4 2 3 Mul Add Or",
-        },
-        Row {
-            text: b"interface a { const long k = 1 - 2 - -b * c; };",
-            outline: b"\n1: interface a\n1: const Long k = 1 2 Sub b Neg c Mul Sub",
-        },
-    ];
-    for row in &rows {
-        let text = row.text;
-        let Ok(outline) = read(&rt, rt.alloc(), text)? else {
-            return Ok(assert!(rt; false, "no tree: {text:?}"));
-        };
-        assert_eq!(rt; outline.as_slice(), row.outline, "of {text:?}");
-    }
-    Ok(())
-}
+    ),
+    (
+        b"interface a; interface b { %{ %} C++ };",
+        b"\n1: forward a\n1: interface b\n1: code",
+    ),
+    (
+        b"interface a { const long k = 1 << 3 | 4 + 2 * 3; };",
+        b"\n1: interface a\n1: const Long k = 1 3 Shl 4 2 3 Mul Add Or",
+    ),
+    (
+        b"interface a { const long k = 1 - 2 - -b * c; };",
+        b"\n1: interface a\n1: const Long k = 1 2 Sub b Neg c Mul Sub",
+    ),
+    (b"interface nsIA {", b"fault at 3 1"),
+    (b"interface nsIA { void f(in long\n); };", b"fault at 8 2"),
+    (b"interface nsIA { const short k = 1 + };", b"fault at 9 1"),
+    (b"[ ] interface nsIA;", b"fault at 1 1"),
+    (b"[x] typedef long y;", b"fault at 3 1"),
+    (b"typedef unsigned float x;", b"fault at 2 1"),
+    (b"interface a : b;", b"fault at 4 1"),
+];
 
 #[test]
-fn faults_have_these_places(rt: HostRuntime) -> Result<(), Fail> {
-    let faults: [(&[u8], (u32, u32)); 7] = [
-        (b"interface nsIA {", (3, 1)),
-        (b"interface nsIA { void f(in long\n); };", (8, 2)),
-        (b"interface nsIA { const short k = 1 + };", (9, 1)),
-        (b"[ ] interface nsIA;", (1, 1)),
-        (b"[x] typedef long y;", (3, 1)),
-        (b"typedef unsigned float x;", (2, 1)),
-        (b"interface a : b;", (4, 1)),
-    ];
-    for (text, place) in faults {
-        assert_eq!(rt;
-            read(&rt, rt.alloc(), text)?.err(),
-            Some(place),
-            "of {text:?}"
-        );
+fn texts_have_these_trees(rt: HostRuntime) -> Result<(), Fail> {
+    for (text, wanted) in &TEXTS {
+        let found = told(&rt, rt.alloc(), text)?;
+        check(&rt, text, found.as_slice(), wanted);
     }
     Ok(())
 }
@@ -129,17 +117,59 @@ fn deep(alloc: Global, open: usize, close: usize) -> Result<Bytes, Fail> {
     Ok(text)
 }
 
+/// How many parentheses are open, how many of them are closed again, and what comes of the text.
+const DEPTHS: [(usize, usize, &[u8]); 3] = [
+    (63, 63, b"\n1: interface nsIA\n1: const Short k = 1 Neg"),
+    (64, 64, b"fault at 71 1"),
+    (65, 0, b"fault at 71 1"),
+];
+
 #[test]
 fn sixty_four_may_be_open(rt: HostRuntime) -> Result<(), Fail> {
-    let depths = [
-        (63, 63, None),
-        (64, 64, Some((71, 1))),
-        (65, 0, Some((71, 1))),
-    ];
-    for (open, close, fault) in depths {
-        let text = deep(rt.alloc(), open, close)?;
-        let found = read(&rt, rt.alloc(), text.as_slice())?.err();
-        assert_eq!(rt; found, fault, "with {open} open and {close} closed");
+    for (open, close, wanted) in &DEPTHS {
+        let text = deep(rt.alloc(), *open, *close)?;
+        let found = told(&rt, rt.alloc(), text.as_slice())?;
+        check(&rt, text.as_slice(), found.as_slice(), wanted);
+    }
+    Ok(())
+}
+
+/// Sources, the kind of a token that is made of so many bytes of each, and what comes of it with a
+/// mark behind it.
+const MADE: [(&[u8], Kind, u32, &[u8]); 6] = [
+    (b"native a(b);", Kind::Native, 11, b"\n1: native a is b"),
+    (b"native a(b);", Kind::Native, 10, b"fault at 0 1"),
+    (b"native long(b);", Kind::Native, 14, b"fault at 0 1"),
+    (b"native a(b);", Kind::Include, 11, b"fault at 0 1"),
+    (b"#include \"a\";", Kind::Include, 12, b"fault at 1 1"),
+    (b"#include \"a;", Kind::Include, 11, b"fault at 0 1"),
+];
+
+/// A token of the first line.
+fn token(kind: Kind, start: u32, end: u32) -> Token {
+    Token {
+        kind,
+        start,
+        end,
+        line: 1,
+    }
+}
+
+/// A token of so many bytes, and a mark of the byte behind it.
+fn made(alloc: Global, source: &[u8], kind: Kind, end: u32) -> Result<Tokens, Fail> {
+    let mut list = List::new(alloc);
+    list.push(token(kind, 0, end))?;
+    list.push(token(Kind::Mark, end, end.saturating_add(1)))?;
+    let source = Bytes::copy(alloc, source)?;
+    Ok(Tokens { source, list })
+}
+
+#[test]
+fn a_token_with_parts_is_spelled_as_its_kind(rt: HostRuntime) -> Result<(), Fail> {
+    for (source, kind, end, wanted) in &MADE {
+        let tokens = made(rt.alloc(), source, *kind, *end)?;
+        let found = told_of(&rt, rt.alloc(), &tokens)?;
+        check(&rt, source, found.as_slice(), wanted);
     }
     Ok(())
 }
