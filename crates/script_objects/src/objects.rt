@@ -110,7 +110,9 @@ impl Objects {
         requires few { length self.old.objects < 2 ^ 32 }
         ensures number { IfOk result (λ number. number ≡ length self.old.objects) }
         ensures added { OnOk result (self.new ≡ with_object self.old at iface) }
-        ensures known { IfOk result (λ number. KnowsMore self.old self.new at (ObjectHeld number iface)) }
+        ensures known { IfOk
+            result
+            (λ number. KnowsMore self.old self.new at (ObjectHeld number iface)) }
         ensures err { OnErr result (self.new ≡ self.old) }
     {
         let number = self.count() as u32;
