@@ -45,16 +45,16 @@ use Rattle.script_meaning.proofs.Ways.{first-found}
 
 -- ---- chains of conditions
 
-if_then : {A B : Type 0} (P : B → Type 0) (r : Result A Refusal) (f : A → Result B Refusal)
+pub if_then : {A B : Type 0} (P : B → Type 0) (r : Result A Refusal) (f : A → Result B Refusal)
     → ((v : A) → r ≡ Ok v → IfOk (f v) P) → IfOk (r then f) P
 if_then P (Ok v) f each = each v refl
 if_then P (Err e) f each = tt
 
-required : (t : Bool) (e : Refusal) (v : Unit {0}) → require t e ≡ Ok v → t ≡ true
+pub required : (t : Bool) (e : Refusal) (v : Unit {0}) → require t e ≡ Ok v → t ≡ true
 required true e v is = refl
 required false e v is = absurd (none-some v (ap result_ok is))
 
-found-is : {A : Type 0} (o : Option A) (e : Refusal) (v : A) → there_is o e ≡ Ok v → o ≡ Some v
+pub found-is : {A : Type 0} (o : Option A) (e : Refusal) (v : A) → there_is o e ≡ Ok v → o ≡ Some v
 found-is None e v is = absurd (none-some v (ap result_ok is))
 found-is (Some w) e v is = ap Some (same_Some w v (ap result_ok is))
 

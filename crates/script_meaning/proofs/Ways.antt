@@ -24,7 +24,7 @@ first-found p Q [] x all is = absurd (none-some x is)
 first-found p Q (y ∷ ys) x all is =
     by_test p Q y (find p ys) x (All-head Q y ys all) (first-found p Q ys x (All-tail Q y ys all)) (p y) refl is
 
-has_its_number : (n : ℕ) (h : Held) → has_number n h ≡ true → number_in h ≡ n
+pub has_its_number : (n : ℕ) (h : Held) → has_number n h ≡ true → number_in h ≡ n
 has_its_number n (Data bytes) is = absurd (grind (arith, common_steps, is))
 has_its_number n (Object number iface) is = grind (arith, common_steps, is)
 has_its_number n (Forwarder number iface target own) is = grind (arith, common_steps, is)

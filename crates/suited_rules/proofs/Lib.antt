@@ -1,0 +1,4 @@
+pub mod Descent
+pub mod Numbers
+pub mod Suited
+pub mod Suits
