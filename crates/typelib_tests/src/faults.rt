@@ -5,6 +5,7 @@ ghost use Rattle.std.specs.Prelude.{◌≡◌, ◌≤◌, length};
 
 use descriptor_reader::Typelib;
 use std::alloc::Global;
+use std::process::Abort;
 use std::test::Fail;
 use xp_base::{Bytes, MAX_TYPELIB, Memory};
 
@@ -108,13 +109,28 @@ const CHANGES: [Change; 14] = [
     (88, 80, 2, Some((15, 87))),
 ];
 
+/// The file of one method with this byte at this place.
+fn changed(rt: &impl Abort, place: usize, byte: u8) -> [u8; 88]
+    ensures { length result ≡ 88 }
+{
+    assert!(rt; place < 88);
+    let mut file = one_method();
+    file[place] = byte;
+    file
+}
+
+/// The first fault of so many bytes of the file of one method, in which a byte is changed.
+fn fault_of_changed(rt: &impl Abort, len: usize, place: usize, byte: u8) -> Option<(u8, u64)> {
+    let file = changed(rt, place, byte);
+    assert!(rt; len <= 88);
+    fault_of(&file[..len])
+}
+
 #[test]
 fn a_short_or_changed_file_has_its_fault(rt: HostRuntime) {
-    for (len, place, byte, fault) in CHANGES {
-        assert!(rt; len <= 88 && place < 88);
-        let mut file = one_method();
-        file[place] = byte;
-        assert_eq!(rt; fault_of(&file[..len]), fault, "byte {place} is {byte}");
+    for (len, place, byte, wanted) in &CHANGES {
+        let found = fault_of_changed(&rt, *len, *place, *byte);
+        assert!(rt; found == *wanted, "byte {place} of {len} is {byte}");
     }
 }
 
@@ -161,11 +177,11 @@ const LARGE: [Large; 4] = [
 
 #[test]
 fn a_large_file_has_its_fault(rt: HostRuntime) -> Result<(), Fail> {
-    for (header, entries, pool, methods, fault) in LARGE {
-        let file = assembled(rt.alloc(), header, entries, pool, methods)?;
+    for (header, entries, pool, methods, wanted) in &LARGE {
+        let file = assembled(rt.alloc(), header, *entries, pool, *methods)?;
         let bytes = file.as_slice();
         assert!(rt; bytes.len() <= MAX_TYPELIB);
-        assert_eq!(rt; fault_of(bytes), fault, "{methods} methods");
+        assert!(rt; fault_of(bytes) == *wanted, "{methods} methods");
     }
     Ok(())
 }
@@ -193,10 +209,8 @@ const THIN: [(usize, u8, Option<bool>); 6] = [
 
 #[test]
 fn a_thin_file_has_no_flags(rt: HostRuntime) {
-    for (place, byte, thin) in THIN {
-        assert!(rt; place < 88);
-        let mut file = one_method();
-        file[place] = byte;
-        assert_eq!(rt; is_thin(&file), thin, "byte {place} is {byte}");
+    for (place, byte, wanted) in &THIN {
+        let file = changed(&rt, *place, *byte);
+        assert!(rt; is_thin(&file) == *wanted, "byte {place} is {byte}");
     }
 }

@@ -185,10 +185,9 @@ fn has_rows(iface: &TableIface, rows: &Rows) -> bool {
 fn the_table_has_the_interfaces_and_their_own_slots(rt: HostRuntime) -> Result<(), Fail> {
     let library = library_of(rt.alloc(), &INTERFACES)?;
     let table = table_of(rt.alloc(), &library)?;
-    assert_eq!(rt; table.ifaces.len(), INTERFACES.len());
+    assert!(rt; table.ifaces.len() == INTERFACES.len());
     for (iface, rows) in table.ifaces.as_slice().iter().zip(&INTERFACES) {
-        let name = rows.name;
-        assert!(rt; has_rows(iface, rows), "of {name:?}");
+        assert!(rt; has_rows(iface, rows), "of {:?}", rows.name);
     }
     Ok(())
 }

@@ -1,7 +1,9 @@
 //! What the views of a typelib hand out, worked out by hand.
 
 use call_model::{CType, MemberKind, Note, Pass, ProtoArg, Status};
-use descriptor_reader::{BadTypelib, ConstView, IfaceView, Typelib};
+use descriptor_reader::{BadTypelib, ConstView, IfaceView, MethodView, Typelib};
+use std::alloc::{AllocError, Global};
+use std::process::Abort;
 use std::test::Fail;
 use xp_base::ConstKind;
 
@@ -35,75 +37,105 @@ fn iid(last: u8) -> [u8; 16] {
     [0, 0, 0, 0, 0, 0, 0, 0, 0, 0, 0, 0, 0, 0, 0, last]
 }
 
-/// A name, the last byte of an identifier, and the number of the interface that has both.
-const NUMBERS: [(&[u8], u8, Option<u16>); 4] = [
-    (b"nsIA", 1, Some(1)),
-    (b"nsIB", 2, Some(2)),
-    (b"nsIC", 3, None),
-    (b"nsI", 0, None),
+/// What was found in the family is what was wanted.
+fn check(rt: &impl Abort, of: &str, found: &str, wanted: &str) {
+    assert_eq!(rt; found, wanted, "of {of}");
+}
+
+/// A name, the last byte of an identifier, and the numbers of the interfaces that have them.
+const NUMBERS: [(&str, u8, &str); 4] = [
+    ("nsIA", 1, "Some(1) Some(1)"),
+    ("nsIB", 2, "Some(2) Some(2)"),
+    ("nsIC", 3, "None None"),
+    ("nsI", 0, "None None"),
 ];
+
+/// The numbers of the interfaces of this name and of this identifier.
+fn numbers(alloc: Global, name: &str, last: u8) -> Result<String, Fail> {
+    let lib = family()?;
+    let named = lib.find(name.as_bytes());
+    let identified = lib.find_iid(&iid(last));
+    Ok(format!(in alloc; "{named:?} {identified:?}")?)
+}
 
 #[test]
 fn interfaces_are_found(rt: HostRuntime) -> Result<(), Fail> {
     let lib = family()?;
-    assert_eq!(rt; lib.iface_count(), 3);
-    for (name, last, number) in NUMBERS {
-        let found = (lib.find(name), lib.find_iid(&iid(last)));
-        assert_eq!(rt; found, (number, number), "{last}");
+    assert!(rt; lib.iface_count() == 3);
+    for (name, last, wanted) in &NUMBERS {
+        let found = numbers(rt.alloc(), name, *last)?;
+        check(&rt, name, found.as_str(), wanted);
     }
     Ok(())
 }
 
 /// The number of an interface, a kind and a name, and the slot of that member.
-const MEMBERS: [(u16, MemberKind, &[u8], Option<u16>); 9] = [
-    (1, MemberKind::Get, b"f", Some(0)),
-    (1, MemberKind::Plain, b"f", Some(1)),
-    (1, MemberKind::Plain, b"g", None),
-    (2, MemberKind::Get, b"f", Some(0)),
-    (2, MemberKind::Plain, b"f", Some(1)),
-    (2, MemberKind::Plain, b"g", Some(2)),
-    (2, MemberKind::Set, b"f", None),
-    (3, MemberKind::Plain, b"f", None),
-    (4, MemberKind::Plain, b"f", None),
+const MEMBERS: [(u16, MemberKind, &str, Option<u16>); 9] = [
+    (1, MemberKind::Get, "f", Some(0)),
+    (1, MemberKind::Plain, "f", Some(1)),
+    (1, MemberKind::Plain, "g", None),
+    (2, MemberKind::Get, "f", Some(0)),
+    (2, MemberKind::Plain, "f", Some(1)),
+    (2, MemberKind::Plain, "g", Some(2)),
+    (2, MemberKind::Set, "f", None),
+    (3, MemberKind::Plain, "f", None),
+    (4, MemberKind::Plain, "f", None),
 ];
+
+/// The slot of the member of this kind and name, of this interface or an ancestor of it.
+fn slot_of(number: u16, kind: MemberKind, name: &str) -> Result<Option<u16>, BadTypelib> {
+    let lib = family()?;
+    match lib.find_method(number, kind, name.as_bytes()) {
+        Some(method) => Ok(Some(method.slot())),
+        None => Ok(None),
+    }
+}
 
 #[test]
 fn members_are_found_in_ancestors(rt: HostRuntime) -> Result<(), Fail> {
-    let lib = family()?;
-    for (number, kind, name, slot) in MEMBERS {
-        let found = match lib.find_method(number, kind, name) {
-            Some(method) => Some(method.slot()),
-            None => None,
-        };
-        assert_eq!(rt; found, slot, "{number} {kind:?}");
+    for (number, kind, name, wanted) in &MEMBERS {
+        let found = slot_of(*number, *kind, name)?;
+        assert!(rt; found == *wanted, "{number} {kind:?} {name}");
     }
     Ok(())
 }
 
-/// A slot of nsIB, and the name, the kind, the parameters and the positions of the method there.
-const SLOTS: [(u16, &[u8], MemberKind, u32, u32); 3] = [
-    (0, b"f", MemberKind::Get, 1, 1),
-    (1, b"f", MemberKind::Plain, 1, 1),
-    (2, b"g", MemberKind::Plain, 2, 4),
+/// A name, a kind, and how many parameters and positions.
+type Signature = (&'static [u8], MemberKind, u32, u32);
+
+/// The methods in the slots of nsIB, in order.
+const SLOTS: [Signature; 3] = [
+    (b"f", MemberKind::Get, 1, 1),
+    (b"f", MemberKind::Plain, 1, 1),
+    (b"g", MemberKind::Plain, 2, 4),
 ];
+
+/// Whether this is the method of the slot.
+fn is_method(method: &MethodView<'_>, slot: u16, signature: &Signature) -> bool {
+    let (name, kind, params, positions) = signature;
+    method.slot() == slot
+        && method.name() == *name
+        && method.kind() == *kind
+        && method.status() == Status::Callable
+        && method.param_count() == *params
+        && method.positions() == *positions
+}
+
+/// Whether the slot of nsIB has the method.
+fn has_method(slot: u16, signature: &Signature) -> Result<bool, BadTypelib> {
+    let lib = family()?;
+    match lib.method_at(2, slot) {
+        Some(method) => Ok(is_method(&method, slot, signature)),
+        None => Ok(false),
+    }
+}
 
 #[test]
 fn slots_hold_the_methods_of_ancestors(rt: HostRuntime) -> Result<(), Fail> {
-    let lib = family()?;
-    for (slot, name, kind, params, positions) in SLOTS {
-        let is_there = match lib.method_at(2, slot) {
-            Some(method) => {
-                method.slot() == slot
-                    && method.name() == name
-                    && method.kind() == kind
-                    && method.status() == Status::Callable
-                    && method.param_count() == params
-                    && method.positions() == positions
-            }
-            None => false,
-        };
-        assert!(rt; is_there, "slot {slot}");
+    for (slot, signature) in SLOTS.iter().enumerate() {
+        assert!(rt; has_method(slot as u16, signature)?, "slot {slot}");
     }
+    let lib = family()?;
     assert!(rt; lib.method_at(2, 3).is_none() && lib.method_at(3, 0).is_none());
     Ok(())
 }
@@ -120,18 +152,22 @@ fn has_own_slots(view: &IfaceView<'_>, first: u16, end: u16) -> bool {
     next == end && view.first_slot() == first && view.end_slot() == end
 }
 
+/// The same of the interface of this number.
+fn owns_slots(number: u16, first: u16, end: u16) -> Result<bool, BadTypelib> {
+    let lib = family()?;
+    match lib.iface(number) {
+        Some(view) => Ok(has_own_slots(&view, first, end)),
+        None => Ok(false),
+    }
+}
+
 /// The number of an interface, its first own slot, and one past its last.
 const OWN_SLOTS: [(u16, u16, u16); 3] = [(1, 0, 2), (2, 2, 3), (3, 0, 0)];
 
 #[test]
 fn own_methods_are_listed_in_their_slots(rt: HostRuntime) -> Result<(), Fail> {
-    let lib = family()?;
-    for (number, first, end) in OWN_SLOTS {
-        let are_there = match lib.iface(number) {
-            Some(view) => has_own_slots(&view, first, end),
-            None => false,
-        };
-        assert!(rt; are_there, "{number}");
+    for (number, first, end) in &OWN_SLOTS {
+        assert!(rt; owns_slots(*number, *first, *end)?, "{number}");
     }
     Ok(())
 }
@@ -143,28 +179,38 @@ const CONSTANTS: [(&[u8], ConstKind, i64); 2] = [
 ];
 
 /// Whether a constant is that of its row.
-fn is_constant(constant: &ConstView<'_>, row: (&[u8], ConstKind, i64)) -> bool {
+fn is_constant(constant: &ConstView<'_>, row: &(&[u8], ConstKind, i64)) -> bool {
     let (name, kind, value) = row;
-    constant.name() == name && constant.kind() == kind && constant.value() == value
+    constant.name() == *name && constant.kind() == *kind && constant.value() == *value
+}
+
+/// Whether the constants of an interface are these, one by one.
+fn has_constants(view: &IfaceView<'_>) -> bool {
+    for (constant, row) in view.constants().zip(&CONSTANTS) {
+        if !is_constant(&constant, row) {
+            return false;
+        }
+    }
+    view.constants().count() == CONSTANTS.len()
+}
+
+/// Whether the second constant of an interface is the last.
+fn has_second(view: &IfaceView<'_>) -> bool {
+    let is_second = match view.constant(1) {
+        Some(second) => is_constant(&second, &CONSTANTS[1]),
+        None => false,
+    };
+    is_second && view.constant(2).is_none()
 }
 
 #[test]
 fn constants_are_read(rt: HostRuntime) -> Result<(), Fail> {
     let lib = family()?;
-    match lib.iface(1) {
-        Some(view) => {
-            for (constant, row) in view.constants().zip(CONSTANTS) {
-                assert!(rt; is_constant(&constant, row));
-            }
-            assert_eq!(rt; view.constants().count(), 2);
-            match view.constant(1) {
-                Some(last) => assert!(rt; is_constant(&last, CONSTANTS[1])),
-                None => assert!(rt; false),
-            }
-            assert!(rt; view.constant(2).is_none());
-        }
-        None => assert!(rt; false),
-    }
+    let are_there = match lib.iface(1) {
+        Some(view) => has_constants(&view) && has_second(&view),
+        None => false,
+    };
+    assert!(rt; are_there);
     Ok(())
 }
 
@@ -202,23 +248,30 @@ const ARGC: ProtoArg = ProtoArg {
 /// The arguments of g, by their positions.
 const ARGS: [(u32, ProtoArg); 4] = [(0, LONG_IN), (1, CONTEXT), (2, ARGC), (3, LONG_OUT)];
 
+/// Whether the arguments of a method are these, one by one and by their positions.
+fn has_args(method: &MethodView<'_>) -> bool {
+    for (arg, (position, row)) in method.args().zip(&ARGS) {
+        if arg != *row || method.arg(*position) != Some(*row) {
+            return false;
+        }
+    }
+    method.args().count() == ARGS.len() && method.arg(4).is_none()
+}
+
+/// Whether a method has two parameters, at the first and the last of four positions.
+fn has_positions(method: &MethodView<'_>) -> bool {
+    method.position_of(0) == Some(0)
+        && method.position_of(1) == Some(3)
+        && method.position_of(2).is_none()
+}
+
 #[test]
 fn added_arguments_stand_before_the_value(rt: HostRuntime) -> Result<(), Fail> {
     let lib = family()?;
-    match lib.method_at(2, 2) {
-        Some(method) => {
-            for (arg, (position, row)) in method.args().zip(ARGS) {
-                assert!(rt;
-                    arg == row && method.arg(position) == Some(row),
-                    "{position}"
-                );
-            }
-            assert_eq!(rt; method.args().count(), 4);
-            assert_eq!(rt; method.position_of(0), Some(0));
-            assert_eq!(rt; method.position_of(1), Some(3));
-            assert!(rt; method.position_of(2).is_none() && method.arg(4).is_none());
-        }
-        None => assert!(rt; false),
-    }
+    let are_there = match lib.method_at(2, 2) {
+        Some(method) => has_args(&method) && has_positions(&method),
+        None => false,
+    };
+    assert!(rt; are_there);
     Ok(())
 }

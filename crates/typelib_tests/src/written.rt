@@ -25,14 +25,12 @@ const ONE_CONSTANT: [u8; 85] = [
     0x06, 0x01, 0x00, 0x0a, 0x00,
 ];
 
-/// The typelib of an example; None where that is too long.
-fn typelib_of(example: Example) -> Option<&'static [u8]> {
-    match example {
-        Example::OneMethod => Some(&ONE_METHOD),
-        Example::OneConstant => Some(&ONE_CONSTANT),
-        Example::ManyConstants => None,
-    }
-}
+/// The examples, each with its typelib; None where that is too long.
+const EXAMPLES: [(Example, Option<&[u8]>); 3] = [
+    (Example::OneMethod, Some(&ONE_METHOD)),
+    (Example::OneConstant, Some(&ONE_CONSTANT)),
+    (Example::ManyConstants, None),
+];
 
 /// Whether this typelib was written, or none since it is too long.
 fn is_typelib(written: &Result<Bytes, WriteError>, typelib: Option<&[u8]>) -> bool {
@@ -45,14 +43,10 @@ fn is_typelib(written: &Result<Bytes, WriteError>, typelib: Option<&[u8]>) -> bo
 
 #[test]
 fn libraries_are_written(rt: HostRuntime) -> Result<(), Fail> {
-    for example in [
-        Example::OneMethod,
-        Example::OneConstant,
-        Example::ManyConstants,
-    ] {
-        let library = library_of(rt.alloc(), example)?;
+    for (example, typelib) in &EXAMPLES {
+        let library = library_of(rt.alloc(), *example)?;
         let written = write(rt.alloc(), &library);
-        assert!(rt; is_typelib(&written, typelib_of(example)), "of {example:?}");
+        assert!(rt; is_typelib(&written, *typelib), "of {example:?}");
     }
     Ok(())
 }
