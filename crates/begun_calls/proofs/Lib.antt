@@ -1,0 +1,5 @@
+pub mod Begun
+pub mod Entered
+pub mod EnteredFrames
+pub mod Pushed
+pub mod TheObject
