@@ -55,13 +55,16 @@ kind_text Set = codes "set:"
 
 -- MEMBER: an interface's name, a dot, and the method
 abbrev pub IsMember : Word → MemberRef → Type 0
-IsMember w member = (w ≡ member.iface ++ codes "." ++ kind_text member.kind ++ member.name) × IsName member.iface × IsName member.name
+IsMember w member =
+    (w ≡ member.iface ++ codes "." ++ kind_text member.kind ++ member.name) × IsName member.iface
+    × IsName member.name
 
 -- ARG: a value, an arrow to a variable, both, or `_`
 abbrev pub IsArg : Word → ArgWord → Type 0
 IsArg w (args.Value value) = IsValue w value
 IsArg w (args.Cell name) = (w ≡ codes "->" ++ name) × IsName name
-IsArg w (args.ValueCell value name) = (front : Word) × (w ≡ front ++ codes "->" ++ name) × IsValue front value × IsName name
+IsArg w (args.ValueCell value name) =
+    (front : Word) × (w ≡ front ++ codes "->" ++ name) × IsValue front value × IsName name
 IsArg w args.Absent = w ≡ codes "_"
 
 -- TERM: a number, a block's address, the value at a position, or the value in its cell
@@ -74,19 +77,28 @@ IsTerm w (terms.InCell at) = (p : Word) × (w ≡ codes "*a" ++ p) × IsPosition
 -- TERM or TERM+TERM
 abbrev pub IsSum : Word → Term → Option Term → Type 0
 IsSum w first None = IsTerm w first
-IsSum w first (Some second) = (left : Word) × (right : Word) × (w ≡ left ++ codes "+" ++ right) × IsTerm left first × IsTerm right second
+IsSum w first (Some second) =
+    (left : Word) × (right : Word) × (w ≡ left ++ codes "+" ++ right) × IsTerm left first
+    × IsTerm right second
 
 -- ITEM: the result, a sum for a cell, or bytes for the memory at an address
 abbrev pub IsItem : Word → ReplyItem → Type 0
-IsItem w (items.Result n) = (digits : Word) × (w ≡ codes "result=" ++ digits) × IsDigits 16 8 digits n
-IsItem w (items.Set at first second) = (p : Word) × (sum : Word) × (w ≡ codes "a" ++ p ++ codes "=" ++ sum) × IsPosition p at × IsSum sum first second
-IsItem w (items.Fill at offset bytes) = (p : Word) × (o : Word) × (hex : Word) × (w ≡ codes "[a" ++ p ++ codes "+" ++ o ++ codes "]=" ++ hex) × IsPosition p at × IsOffset o offset × IsBytes hex bytes
+IsItem w (items.Result n) =
+    (digits : Word) × (w ≡ codes "result=" ++ digits) × IsDigits 16 8 digits n
+IsItem w (items.Set at first second) =
+    (p : Word) × (sum : Word) × (w ≡ codes "a" ++ p ++ codes "=" ++ sum) × IsPosition p at
+    × IsSum sum first second
+IsItem w (items.Fill at offset bytes) =
+    (p : Word) × (o : Word) × (hex : Word)
+    × (w ≡ codes "[a" ++ p ++ codes "+" ++ o ++ codes "]=" ++ hex) × IsPosition p at
+    × IsOffset o offset × IsBytes hex bytes
 
 -- FRAMEITEM: the bytes of the stack, or a register and its value
 abbrev pub IsFrameItem : Word → EnterItem → Type 0
 IsFrameItem w (Stack bytes) = (hex : Word) × (w ≡ codes "stack=" ++ hex) × IsBytes hex bytes
 IsFrameItem w (Register name value) =
-    (digits : Word) × (w ≡ name ++ codes "=" ++ digits) × (is_register name ≡ true) × (name ≢ codes "stack") × IsDigits 16 16 digits value
+    (digits : Word) × (w ≡ name ++ codes "=" ++ digits) × (is_register name ≡ true)
+    × (name ≢ codes "stack") × IsDigits 16 16 digits value
 
 -- one word for each value
 abbrev pub Each : {A : Type 0} → (Word → A → Type 0) → List Word → List A → Type 0
@@ -96,22 +108,33 @@ Each Is (w ∷ ws) (v ∷ vs) = Is w v × Each Is ws vs
 
 -- what the words of a line ask for, one case for each form of line
 abbrev pub IsAct : List Word → Act → Type 0
-IsAct ws (Block name (Given bytes)) = (hex : Word) × (ws ≡ codes "data" ∷ name ∷ hex ∷ []) × IsName name × IsBytes hex bytes
-IsAct ws (Block name (Zeros n)) = (digits : Word) × (ws ≡ codes "data" ∷ name ∷ codes "zero" ∷ digits ∷ []) × IsName name × IsDigits 10 20 digits n
-IsAct ws (Block name (Iid bytes)) = (text : Word) × (ws ≡ codes "data" ∷ name ∷ codes "iid" ∷ text ∷ []) × IsName name × IsIid text bytes
-IsAct ws (Object name iface) = (ws ≡ codes "object" ∷ name ∷ iface ∷ []) × IsName name × IsName iface
+IsAct ws (Block name (Given bytes)) =
+    (hex : Word) × (ws ≡ codes "data" ∷ name ∷ hex ∷ []) × IsName name × IsBytes hex bytes
+IsAct ws (Block name (Zeros n)) =
+    (digits : Word) × (ws ≡ codes "data" ∷ name ∷ codes "zero" ∷ digits ∷ []) × IsName name
+    × IsDigits 10 20 digits n
+IsAct ws (Block name (Iid bytes)) =
+    (text : Word) × (ws ≡ codes "data" ∷ name ∷ codes "iid" ∷ text ∷ []) × IsName name
+    × IsIid text bytes
+IsAct ws (Object name iface) =
+    (ws ≡ codes "object" ∷ name ∷ iface ∷ []) × IsName name × IsName iface
 IsAct ws (Reply name member items) =
-    (m : Word) × (rest : List Word) × (ws ≡ codes "reply" ∷ name ∷ m ∷ rest) × IsName name × IsMember m member × Each IsItem rest items
+    (m : Word) × (rest : List Word) × (ws ≡ codes "reply" ∷ name ∷ m ∷ rest) × IsName name
+    × IsMember m member × Each IsItem rest items
 IsAct ws (Call target member args) =
-    (t : Word) × (m : Word) × (rest : List Word) × (ws ≡ codes "call" ∷ t ∷ m ∷ rest) × IsTarget t target × IsMember m member × Each IsArg rest args
+    (t : Word) × (m : Word) × (rest : List Word) × (ws ≡ codes "call" ∷ t ∷ m ∷ rest)
+    × IsTarget t target × IsMember m member × Each IsArg rest args
 IsAct ws (Enter name member items) =
-    (m : Word) × (rest : List Word) × (ws ≡ codes "enter" ∷ name ∷ m ∷ rest) × IsName name × IsMember m member × Each IsFrameItem rest items
+    (m : Word) × (rest : List Word) × (ws ≡ codes "enter" ∷ name ∷ m ∷ rest) × IsName name
+    × IsMember m member × Each IsFrameItem rest items
 IsAct ws (ShowBlock name) = (ws ≡ codes "show" ∷ name ∷ []) × IsName name
 IsAct ws (ShowValue name) = (ws ≡ codes "show" ∷ (codes "$" ++ name) ∷ []) × IsName name
 IsAct ws (Poke name offset bytes) =
-    (o : Word) × (hex : Word) × (ws ≡ codes "poke" ∷ name ∷ o ∷ hex ∷ []) × IsName name × IsOffset o offset × IsBytes hex bytes
+    (o : Word) × (hex : Word) × (ws ≡ codes "poke" ∷ name ∷ o ∷ hex ∷ []) × IsName name
+    × IsOffset o offset × IsBytes hex bytes
 IsAct ws (Context value) = (w : Word) × (ws ≡ codes "context" ∷ w ∷ []) × IsValue w value
-IsAct ws (Proxy name target) = (ws ≡ codes "proxy" ∷ name ∷ target ∷ []) × IsName name × IsName target
+IsAct ws (Proxy name target) =
+    (ws ≡ codes "proxy" ∷ name ∷ target ∷ []) × IsName name × IsName target
 IsAct ws (Bridge name target conv) =
     (ws ≡ codes "bridge" ∷ name ∷ target ∷ conv_word conv ∷ []) × IsName name × IsName target
 
@@ -124,18 +147,23 @@ IsNothing (w ∷ ws) = slice_index w 0 ≡ 35
 abbrev pub IsRead : ℕ → Word → Option Line → Type 0
 IsRead number text None = (is_plain text ≡ true) × IsNothing (words text)
 IsRead number text (Some line) =
-    (is_plain text ≡ true) × (line.number ≡ number) × (line.echo ≡ joined (words text)) × IsAct (words text) line.act
+    (is_plain text ≡ true) × (line.number ≡ number) × (line.echo ≡ joined (words text))
+    × IsAct (words text) line.act
 
 -- a line of a text is read in at most one way
 abbrev pub OneReading : Type 0
-OneReading = (number : ℕ) (text : Word) (a b : Option Line) → IsRead number text a → IsRead number text b → a ≡ b
+OneReading =
+    (number : ℕ) (text : Word) (a b : Option Line) → IsRead number text a → IsRead number text b
+    → a ≡ b
 
--- the lines of a text, the first of which has this number, are the lines of the script, those that are nothing left out
+-- the lines of a text, the first of which has this number, are the lines of the script, those that
+-- are nothing left out
 abbrev pub AreRead : ℕ → List Word → List Line → Type 0
 AreRead number [] all = all ≡ []
 AreRead number (text ∷ texts) all =
     (IsRead number text None × AreRead (number + 1) texts all)
-    ⊎ ((line : Line) × (more : List Line) × (all ≡ line ∷ more) × IsRead number text (Some line) × AreRead (number + 1) texts more)
+    ⊎ ((line : Line) × (more : List Line) × (all ≡ line ∷ more) × IsRead number text (Some line)
+    × AreRead (number + 1) texts more)
 
 -- the bytes spell the script
 abbrev pub IsScript : List ℕ → Script → Type 0
@@ -149,18 +177,20 @@ HasReading number text = (line : Option Line) × IsRead number text line
 abbrev pub IsFirstUnread : ℕ → List Word → ℕ → Type 0
 IsFirstUnread number [] line = ⊥
 IsFirstUnread number (text ∷ texts) line =
-    ((line ≡ number) × (HasReading number text → ⊥)) ⊎ (HasReading number text × IsFirstUnread (number + 1) texts line)
+    ((line ≡ number) × (HasReading number text → ⊥))
+    ⊎ (HasReading number text × IsFirstUnread (number + 1) texts line)
 
 -- what a refusal says of the bytes
 abbrev pub Blames : List ℕ → ScriptError → Type 0
 Blames bytes (errors.Fault line) = IsFirstUnread 1 (lines bytes) line
 Blames bytes errors.Memory = Unit {0}
 
--- the lines of a text up to the first that has no reading are the lines of the script, and that line, where there is one,
--- is named
+-- the lines of a text up to the first that has no reading are the lines of the script, and that
+-- line, where there is one, is named
 abbrev pub ReadsUpTo : ℕ → List Word → List Line → Option ℕ → Type 0
 ReadsUpTo number [] all fault = (all ≡ []) × (fault ≡ None)
 ReadsUpTo number (text ∷ texts) all fault =
     (IsRead number text None × ReadsUpTo (number + 1) texts all fault)
-    ⊎ (((line : Line) × (more : List Line) × (all ≡ line ∷ more) × IsRead number text (Some line) × ReadsUpTo (number + 1) texts more fault)
+    ⊎ (((line : Line) × (more : List Line) × (all ≡ line ∷ more) × IsRead number text (Some line)
+    × ReadsUpTo (number + 1) texts more fault)
     ⊎ ((HasReading number text → ⊥) × (all ≡ []) × (fault ≡ Some number)))

@@ -48,11 +48,15 @@ None >>= f = None
 
 -- what follows the prefix
 unfoldable pub after : Word → Word → Option Word
-after prefix w = if bytes_eq (take (length prefix) w) prefix then Some (drop (length prefix) w) else None
+after prefix w =
+    if bytes_eq (take (length prefix) w) prefix then Some (drop (length prefix) w) else None
 
 -- what comes before the suffix
 unfoldable pub before : Word → Word → Option Word
-before suffix w = if bytes_eq (drop (length w - length suffix) w) suffix then Some (take (length w - length suffix) w) else None
+before suffix w =
+    if bytes_eq (drop (length w - length suffix) w) suffix
+    then Some (take (length w - length suffix) w)
+    else None
 
 -- the parts before and after the first of a mark
 unfoldable pub cut_at : ℕ → Word → Option (Word × Word)
@@ -63,14 +67,21 @@ name_of w = if is_name w then Some w else None
 
 -- the number that 1 to `longest` digits write
 unfoldable pub digits_of : ℕ → ℕ → Word → Option ℕ
-digits_of radix longest w = if nat_lt 0 (length w) && nat_le (length w) longest && list_all (λ c. is_digit c radix) w then Some (digits_value radix w) else None
+digits_of radix longest w =
+    if nat_lt 0 (length w) && nat_le (length w) longest && list_all (λ c. is_digit c radix) w
+    then Some (digits_value radix w)
+    else None
 
 unfoldable pub decimal_of : Word → Option ℤ
 decimal_of w =
-    if starts_with_minus w then option_map (λ n. neg_ℤ (pos n)) (digits_of 10 20 (drop 1 w)) else option_map pos (digits_of 10 20 w)
+    if starts_with_minus w
+    then option_map (λ n. neg_ℤ (pos n)) (digits_of 10 20 (drop 1 w))
+    else option_map pos (digits_of 10 20 w)
 
 unfoldable pub number_of : Word → Option ℤ
-number_of w = option_map_or (λ digits. option_map pos (digits_of 16 16 digits)) (after (codes "0x") w) (decimal_of w)
+number_of w =
+    option_map_or (λ digits. option_map pos (digits_of 16 16 digits)) (after (codes "0x") w)
+    (decimal_of w)
 
 unfoldable pub bytes_of : Word → Option (List ℕ)
 bytes_of w = if length w == 0 then None else result_ok (decode_of w)
@@ -80,13 +91,18 @@ iid_of w = parsed_hyphenated w
 
 -- the convention that the word names
 unfoldable pub conv_of : Word → Option Conv
-conv_of w = find (λ conv. bytes_eq w (conv_word conv)) (SysV64 ∷ I386 ∷ Aapcs64 ∷ Ms64 ∷ Aapcs32 ∷ [])
+conv_of w =
+    find (λ conv. bytes_eq w (conv_word conv)) (SysV64 ∷ I386 ∷ Aapcs64 ∷ Ms64 ∷ Aapcs32 ∷ [])
 
 -- MEMBER: an interface's name, a dot, and a method's name or an attribute's after `get:` or `set:`
 unfoldable pub method_of : Word → Word → Option MemberRef
 method_of iface w =
-    option_map_or (λ name. name_of name >>= λ name. Some (record { iface = iface; kind = Get; name = name })) (after (codes "get:") w)
-    (option_map_or (λ name. name_of name >>= λ name. Some (record { iface = iface; kind = Set; name = name })) (after (codes "set:") w)
+    option_map_or
+    (λ name. name_of name >>= λ name. Some (record { iface = iface; kind = Get; name = name }))
+    (after (codes "get:") w)
+    (option_map_or
+    (λ name. name_of name >>= λ name. Some (record { iface = iface; kind = Set; name = name }))
+    (after (codes "set:") w)
     (name_of w >>= λ name. Some (record { iface = iface; kind = Plain; name = name })))
 
 unfoldable pub member_of : Word → Option MemberRef
@@ -95,24 +111,34 @@ member_of w = cut_at 46 w >>= λ parts. name_of parts.0 >>= λ iface. method_of 
 unfoldable pub value_of : Word → Option ValueWord
 value_of w =
     if bytes_eq w (codes "null") then Some (values.Number (pos 0))
-    else option_map_or (λ name. name_of name >>= λ name. Some (values.Address name)) (after (codes "@") w)
-    (option_map_or (λ name. name_of name >>= λ name. Some (values.Variable name)) (after (codes "$") w)
+    else option_map_or
+    (λ name. name_of name >>= λ name. Some (values.Address name))
+    (after (codes "@") w)
+    (option_map_or
+    (λ name. name_of name >>= λ name. Some (values.Variable name))
+    (after (codes "$") w)
     (number_of w >>= λ n. Some (values.Number n)))
 
 unfoldable pub target_of : Word → Option Target
 target_of w =
-    option_map_or (λ name. name_of name >>= λ name. Some (targets.Variable name)) (after (codes "$") w)
+    option_map_or
+    (λ name. name_of name >>= λ name. Some (targets.Variable name))
+    (after (codes "$") w)
     (name_of w >>= λ name. Some (targets.Block name))
 
 -- what stands before the arrow, and the name after it
 unfoldable pub out_of : Word → Word → Option ArgWord
 out_of front w =
-    name_of w >>= λ name. if length front == 0 then Some (Cell name) else (value_of front >>= λ value. Some (ValueCell value name))
+    name_of w >>= λ name. if length front == 0
+    then Some (Cell name)
+    else (value_of front >>= λ value. Some (ValueCell value name))
 
 unfoldable pub arg_of : Word → Option ArgWord
 arg_of w =
     if bytes_eq w (codes "_") then Some Absent
-    else option_map_or (λ parts. before (codes "-") parts.0 >>= λ front. out_of front parts.1) (cut_at 62 w)
+    else option_map_or
+    (λ parts. before (codes "-") parts.0 >>= λ front. out_of front parts.1)
+    (cut_at 62 w)
     (value_of w >>= λ value. Some (Value value))
 
 unfoldable pub term_of : Word → Option Term
@@ -125,7 +151,10 @@ term_of w =
 -- `POS=TERM` or `POS=TERM+TERM`
 unfoldable pub sum_of : ℕ → Word → Option ReplyItem
 sum_of at w =
-    option_map_or (λ parts. term_of parts.0 >>= λ first. term_of parts.1 >>= λ second. Some (items.Set at first (Some second))) (cut_at 43 w)
+    option_map_or
+    (λ parts. term_of parts.0 >>= λ first. term_of parts.1 >>= λ second.
+    Some (items.Set at first (Some second)))
+    (cut_at 43 w)
     (term_of w >>= λ first. Some (items.Set at first None))
 
 unfoldable pub set_of : Word → Option ReplyItem
@@ -134,19 +163,24 @@ set_of w = cut_at 61 w >>= λ parts. digits_of 10 3 parts.0 >>= λ at. sum_of at
 -- `POS+OFF]=HEX`
 unfoldable pub fill_of : Word → Option ReplyItem
 fill_of w =
-    cut_at 43 w >>= λ parts. digits_of 10 3 parts.0 >>= λ at. cut_at 93 parts.1 >>= λ ends. digits_of 10 8 ends.0 >>= λ offset.
+    cut_at 43 w >>= λ parts. digits_of 10 3 parts.0 >>= λ at.
+    cut_at 93 parts.1 >>= λ ends. digits_of 10 8 ends.0 >>= λ offset.
     after (codes "=") ends.1 >>= λ hex. bytes_of hex >>= λ bytes. Some (items.Fill at offset bytes)
 
 unfoldable pub item_of : Word → Option ReplyItem
 item_of w =
-    option_map_or (λ digits. digits_of 16 8 digits >>= λ n. Some (items.Result n)) (after (codes "result=") w)
+    option_map_or
+    (λ digits. digits_of 16 8 digits >>= λ n. Some (items.Result n))
+    (after (codes "result=") w)
     (option_map_or set_of (after (codes "a") w) (after (codes "[a") w >>= fill_of))
 
 unfoldable pub frame_item_of : Word → Option EnterItem
 frame_item_of w =
     cut_at 61 w >>= λ parts.
     if bytes_eq parts.0 (codes "stack") then (bytes_of parts.1 >>= λ bytes. Some (Stack bytes))
-    else if is_register parts.0 then (digits_of 16 16 parts.1 >>= λ value. Some (Register parts.0 value)) else None
+    else if is_register parts.0
+    then (digits_of 16 16 parts.1 >>= λ value. Some (Register parts.0 value))
+    else None
 
 -- all the readings, in order, where each word has one
 abbrev pub each_of : {A : Type 0} → (Word → Option A) → List Word → Option (List A)
@@ -159,33 +193,45 @@ fill_kind_of kind w =
     else if bytes_eq kind (codes "iid") then (iid_of w >>= λ bytes. Some (Iid bytes)) else None
 
 abbrev pub block_of : List Word → Option Act
-block_of (name ∷ hex ∷ []) = name_of name >>= λ name. bytes_of hex >>= λ bytes. Some (Block name (Given bytes))
-block_of (name ∷ kind ∷ text ∷ []) = name_of name >>= λ name. fill_kind_of kind text >>= λ fill. Some (Block name fill)
+block_of (name ∷ hex ∷ []) =
+    name_of name >>= λ name. bytes_of hex >>= λ bytes. Some (Block name (Given bytes))
+block_of (name ∷ kind ∷ text ∷ []) =
+    name_of name >>= λ name. fill_kind_of kind text >>= λ fill. Some (Block name fill)
 block_of _ = None
 
 abbrev pub object_of : List Word → Option Act
-object_of (name ∷ iface ∷ []) = name_of name >>= λ name. name_of iface >>= λ iface. Some (Object name iface)
+object_of (name ∷ iface ∷ []) =
+    name_of name >>= λ name. name_of iface >>= λ iface. Some (Object name iface)
 object_of _ = None
 
 abbrev pub reply_of : List Word → Option Act
-reply_of (name ∷ member ∷ words) = name_of name >>= λ name. member_of member >>= λ member. each_of item_of words >>= λ items. Some (Reply name member items)
+reply_of (name ∷ member ∷ words) =
+    name_of name >>= λ name. member_of member >>= λ member.
+    each_of item_of words >>= λ items. Some (Reply name member items)
 reply_of _ = None
 
 abbrev pub call_of : List Word → Option Act
-call_of (target ∷ member ∷ words) = target_of target >>= λ target. member_of member >>= λ member. each_of arg_of words >>= λ args. Some (Call target member args)
+call_of (target ∷ member ∷ words) =
+    target_of target >>= λ target. member_of member >>= λ member.
+    each_of arg_of words >>= λ args. Some (Call target member args)
 call_of _ = None
 
 abbrev pub enter_of : List Word → Option Act
-enter_of (name ∷ member ∷ words) = name_of name >>= λ name. member_of member >>= λ member. each_of frame_item_of words >>= λ items. Some (Enter name member items)
+enter_of (name ∷ member ∷ words) =
+    name_of name >>= λ name. member_of member >>= λ member.
+    each_of frame_item_of words >>= λ items. Some (Enter name member items)
 enter_of _ = None
 
 abbrev pub show_of : List Word → Option Act
 show_of (w ∷ []) =
-    option_map_or (λ name. name_of name >>= λ name. Some (ShowValue name)) (after (codes "$") w) (name_of w >>= λ name. Some (ShowBlock name))
+    option_map_or (λ name. name_of name >>= λ name. Some (ShowValue name)) (after (codes "$") w)
+    (name_of w >>= λ name. Some (ShowBlock name))
 show_of _ = None
 
 abbrev pub poke_of : List Word → Option Act
-poke_of (name ∷ offset ∷ hex ∷ []) = name_of name >>= λ name. digits_of 10 8 offset >>= λ offset. bytes_of hex >>= λ bytes. Some (Poke name offset bytes)
+poke_of (name ∷ offset ∷ hex ∷ []) =
+    name_of name >>= λ name. digits_of 10 8 offset >>= λ offset.
+    bytes_of hex >>= λ bytes. Some (Poke name offset bytes)
 poke_of _ = None
 
 abbrev pub context_of : List Word → Option Act
@@ -193,12 +239,14 @@ context_of (w ∷ []) = value_of w >>= λ value. Some (Context value)
 context_of _ = None
 
 abbrev pub proxy_of : List Word → Option Act
-proxy_of (name ∷ target ∷ []) = name_of name >>= λ name. name_of target >>= λ target. Some (Proxy name target)
+proxy_of (name ∷ target ∷ []) =
+    name_of name >>= λ name. name_of target >>= λ target. Some (Proxy name target)
 proxy_of _ = None
 
 abbrev pub bridge_of : List Word → Option Act
 bridge_of (name ∷ target ∷ conv ∷ []) =
-    name_of name >>= λ name. name_of target >>= λ target. conv_of conv >>= λ conv. Some (Bridge name target conv)
+    name_of name >>= λ name. name_of target >>= λ target.
+    conv_of conv >>= λ conv. Some (Bridge name target conv)
 bridge_of _ = None
 
 -- the line of these words
@@ -226,7 +274,8 @@ unfoldable pub words_line_of : ℕ → List Word → Option (Option Line)
 words_line_of number [] = Some None
 words_line_of number (w ∷ ws) =
     if is_comment w then Some None
-    else (act_of (w ∷ ws) >>= λ act. Some (Some (record { number = number; echo = joined (w ∷ ws); act = act })))
+    else (act_of (w ∷ ws) >>= λ act.
+    Some (Some (record { number = number; echo = joined (w ∷ ws); act = act })))
 
 unfoldable pub line_of : ℕ → Word → Option (Option Line)
 line_of number text = if is_plain text then words_line_of number (words text) else None

@@ -1,4 +1,5 @@
--- The words that a script's lines are made of, one by one: names, numbers, bytes, IIDs and register names.
+-- The words that a script's lines are made of, one by one: names, numbers, bytes, IIDs and register
+-- names.
 use Rattle.std.specs.Prelude.{◌≡◌, ℕ, ◌<◌, Bool, not, ◌&&◌, ◌||◌, ◌==◌, nat_lt, nat_le, ◌⊎◌, List, ◌++◌, length, slice_index, ℤ, pos, codes, Some, Ok}
 use Rattle.call_model.specs.declared.places.Conv.{Conv}
 use Rattle.call_model.specs.declared.places.Conv.TheVariants.{SysV64, I386, Aapcs64, Ms64, Aapcs32}
@@ -23,15 +24,21 @@ is_name_byte b = is_lower b || (nat_le 65 b && nat_le b 90) || is_ascii_digit b 
 
 -- NAME: 1 to 255 letters, digits and `_`, of which the first is no digit
 abbrev pub is_name : Word → Bool
-is_name w = nat_lt 0 (length w) && nat_le (length w) 255 && list_all is_name_byte w && not (is_ascii_digit (slice_index w 0))
+is_name w =
+    nat_lt 0 (length w) && nat_le (length w) 255 && list_all is_name_byte w
+    && not (is_ascii_digit (slice_index w 0))
 
 -- the name of a register: a lower-case letter, and lower-case letters and digits after it
 abbrev pub is_register : Word → Bool
-is_register w = nat_lt 0 (length w) && is_lower (slice_index w 0) && list_all (λ b. is_lower b || is_ascii_digit b) w
+is_register w =
+    nat_lt 0 (length w) && is_lower (slice_index w 0)
+    && list_all (λ b. is_lower b || is_ascii_digit b) w
 
 -- NUMBER: an optional `-` and 1 to 20 decimal digits, or `0x` and 1 to 16 hexadecimal digits
 abbrev pub IsNumber : Word → ℤ → Type 0
-IsNumber w n = (IsDecimal w × (n ≡ decimal_value w)) ⊎ ((digits : Word) × (w ≡ codes "0x" ++ digits) × IsHex digits × (n ≡ pos (hex_value digits)))
+IsNumber w n =
+    (IsDecimal w × (n ≡ decimal_value w))
+    ⊎ ((digits : Word) × (w ≡ codes "0x" ++ digits) × IsHex digits × (n ≡ pos (hex_value digits)))
 
 -- so many digits in a radix at most, at least one of them, and no sign
 abbrev pub IsDigits : ℕ → ℕ → Word → ℕ → Type 0
@@ -41,7 +48,8 @@ IsDigits radix longest w n = IsNatural radix longest w × (n ≡ digits_value ra
 abbrev pub IsBytes : Word → List ℕ → Type 0
 IsBytes w bytes = (0 < length w) × (decode_of w ≡ Ok bytes)
 
--- an IID as RFC 9562 writes a UUID: hexadecimal digits in groups of 8, 4, 4, 4 and 12, joined by `-`
+-- an IID as RFC 9562 writes a UUID: hexadecimal digits in groups of 8, 4, 4, 4 and 12, joined by
+-- `-`
 abbrev pub IsIid : Word → List ℕ → Type 0
 IsIid w bytes = parsed_hyphenated w ≡ Some bytes
 

@@ -55,7 +55,8 @@ impl From<Memory> for Unread {
 impl From<FromHexError> for Unread {
     ghost use Rattle.hex.specs.declared.FromHexError.TheVariants.{OutOfMemory};
 
-    ghost from_gives = { λ d e. (d ≡ OutOfMemory → e ≡ NoMemory) × (¬ (d ≡ OutOfMemory) → e ≡ NoReading) };
+    ghost from_gives = { λ d e.
+        (d ≡ OutOfMemory → e ≡ NoMemory) × (¬ (d ≡ OutOfMemory) → e ≡ NoReading) };
 
     fn from(error: FromHexError) -> Unread {
         match error {

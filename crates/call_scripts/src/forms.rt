@@ -1,4 +1,5 @@
-//! The words that are made of parts: members, values, arguments, and the items of replies and of frames.
+//! The words that are made of parts: members, values, arguments, and the items of replies and of
+//! frames.
 
 ghost use Rattle.std.specs.Prelude.{◌≡◌, length};
 ghost use Rattle.call_scripts.specs.Reading.{Gives, arg_of, fill_kind_of, fill_of, frame_item_of, item_of, member_of, method_of, out_of, set_of, sum_of, target_of, term_of, value_of};
@@ -14,7 +15,8 @@ use crate::spellings::{
 use std::alloc::Global;
 use xp_base::Bytes;
 
-/// `MEMBER`: an interface's name, a dot, and a method's name, or an attribute's after `get:` or `set:`.
+/// `MEMBER`: an interface's name, a dot, and a method's name, or an attribute's after `get:` or
+/// `set:`.
 #[tactic(auto, unfolding(crate::specs::Reading::member_of))]
 pub(crate) fn member(alloc: Global, word: &[u8]) -> Result<MemberRef, Unread>
     ensures { Gives result (member_of word.now) }
@@ -70,7 +72,8 @@ pub(crate) fn target(alloc: Global, word: &[u8]) -> Result<Target, Unread>
     Ok(Target::Block(name(alloc, word)?))
 }
 
-/// `ARG`: a value, an arrow to a variable, both, or `_`. No value and no name has a `>`, so an arrow ends at the first.
+/// `ARG`: a value, an arrow to a variable, both, or `_`. No value and no name has a `>`, so an
+/// arrow ends at the first.
 #[tactic(auto, unfolding(crate::specs::Reading::arg_of))]
 pub(crate) fn arg(alloc: Global, word: &[u8]) -> Result<ArgWord, Unread>
     ensures { Gives result (arg_of word.now) }

@@ -1,4 +1,5 @@
-//! Scripts of calls, read: each line of a text is one command over blocks, objects, variables and calls.
+//! Scripts of calls, read: each line of a text is one command over blocks, objects, variables and
+//! calls.
 #![tactic(auto)]
 
 mod commands;

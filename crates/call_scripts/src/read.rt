@@ -17,15 +17,18 @@ use xp_base::{List, MAX_TEXT, Memory};
 
 /// The script that the bytes spell, which is at most one.
 ///
-/// Lines end in LF, and one CR directly before it is dropped; the last line may lack its LF. A line has only tabs and
-/// the bytes from 20 to 7e, in hexadecimal; spaces and tabs separate its words. A line with no word, or whose first
-/// word begins with `#`, is nothing. All lines are counted, from 1.
+/// Lines end in LF, and one CR directly before it is dropped; the last line may lack its LF. A line
+/// has only tabs and the bytes from 20 to 7e, in hexadecimal; spaces and tabs separate its words. A
+/// line with no word, or whose first word begins with `#`, is nothing. All lines are counted, from
+/// 1.
 ///
-/// `Fault` names the first line that has no reading; where each line has one, it never comes. `Memory` is free.
+/// `Fault` names the first line that has no reading; where each line has one, it never comes.
+/// `Memory` is free.
 pub fn read_script(alloc: Global, bytes: &[u8]) -> Result<Script, ScriptError>
     requires { length bytes.now ≤ MAX_TEXT }
     ensures ok { IfOk result (λ script. IsScript bytes.now script) }
-    ensures only { (script : spelled.Script) → IsScript bytes.now script → (result ≡ Ok script) ⊎ (result ≡ Err ScriptError.Memory) }
+    ensures only { (script : spelled.Script) → IsScript bytes.now script
+        → (result ≡ Ok script) ⊎ (result ≡ Err ScriptError.Memory) }
     ensures err { IfErr result (Blames bytes.now) }
 {
     let Front { script, fault } = read_front(alloc, bytes)?;
@@ -35,8 +38,9 @@ pub fn read_script(alloc: Global, bytes: &[u8]) -> Result<Script, ScriptError>
     }
 }
 
-/// The script that the front of the bytes spells: all lines, or those before the first that has no reading, and the
-/// number of that line. Lines are those of `read_script`. The one error is want of memory.
+/// The script that the front of the bytes spells: all lines, or those before the first that has no
+/// reading, and the number of that line. Lines are those of `read_script`. The one error is want of
+/// memory.
 pub fn read_front(alloc: Global, bytes: &[u8]) -> Result<Front, Memory>
     requires { length bytes.now ≤ MAX_TEXT }
     ensures { IfOk result (λ front. ReadsUpTo 1 (lines bytes.now) front.script.lines front.fault) }
@@ -68,7 +72,9 @@ pub fn one_reading()
 
 /// Reads a line, and adds it where it is one.
 fn add(all: &mut List<Line>, alloc: Global, text: &[u8], number: u32) -> Result<(), Unread>
-    ensures ok { OnOk result ((more : Reading) → with_lines all.new more ≡ with_lines all.old (add_line number (line_of number text.now) more)) }
+    ensures ok { OnOk result ((more : Reading)
+        → with_lines all.new more
+        ≡ with_lines all.old (add_line number (line_of number text.now) more)) }
     ensures err { result ≡ Err NoReading → line_of number text.now ≡ None }
     ensures same { OnErr result (all.new ≡ all.old) }
 {

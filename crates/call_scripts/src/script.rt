@@ -102,7 +102,8 @@ pub struct MemberRef {
     pub name: Bytes,
 }
 
-/// Which of a member's methods is meant: the method of this name, or the getter or setter of an attribute.
+/// Which of a member's methods is meant: the method of this name, or the getter or setter of an
+/// attribute.
 #[derive(Clone, Copy, Debug, PartialEq, Eq)]
 pub enum MemberWord {
     Plain,
@@ -165,7 +166,8 @@ pub enum ReplyItem {
         first: Term,
         second: Option<Term>,
     },
-    /// `[aPOS+OFF]=HEX`: bytes for the memory at the address that came at a position, from an offset on.
+    /// `[aPOS+OFF]=HEX`: bytes for the memory at the address that came at a position, from an
+    /// offset on.
     Fill {
         at: u16,
         offset: u32,

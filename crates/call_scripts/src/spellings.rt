@@ -125,7 +125,8 @@ pub(crate) fn hex_digits(word: &[u8], longest: usize) -> Option<u64>
     hex_read(word)
 }
 
-/// The number that an optional `-` and 1 to 20 decimal digits, or `0x` and 1 to 16 hexadecimal digits, write.
+/// The number that an optional `-` and 1 to 20 decimal digits, or `0x` and 1 to 16 hexadecimal
+/// digits, write.
 #[tactic(auto, unfolding(crate::specs::Reading::number_of))]
 pub(crate) fn number(word: &[u8]) -> Option<i128>
     ensures { result ≡ number_of word.now }
@@ -173,7 +174,8 @@ fn place_of(word: &[u8], mark: u8) -> Option<usize>
     word.iter().position(|b| *b == mark)
 }
 
-/// Whether the word is a register's name: a lower-case letter, and lower-case letters and digits after it.
+/// Whether the word is a register's name: a lower-case letter, and lower-case letters and digits
+/// after it.
 pub(crate) fn is_register(word: &[u8]) -> bool
     ensures { result ≡ spell.is_register word.now }
 {

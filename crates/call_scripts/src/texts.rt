@@ -9,10 +9,11 @@ use crate::spellings::cut_at;
 use std::alloc::{AllocError, Global};
 use xp_base::{Bytes, Memory};
 
-/// The first line of a text, without its line feed and the one carriage return before that, and the text after it.
-/// None exactly where the text is empty.
+/// The first line of a text, without its line feed and the one carriage return before that, and the
+/// text after it. None exactly where the text is empty.
 pub(crate) fn next_line(bytes: &[u8]) -> Option<(&[u8], &[u8])>
-    ensures cut { MatchOption result (lines bytes.now ≡ []) (λ cut. lines bytes.now ≡ cut.0.now ∷ lines cut.1.now) }
+    ensures cut { MatchOption result (lines bytes.now ≡ [])
+        (λ cut. lines bytes.now ≡ cut.0.now ∷ lines cut.1.now) }
     ensures shorter { IfSome result (λ cut. length cut.1.now < length bytes.now) }
 {
     if bytes.is_empty() {
@@ -63,7 +64,8 @@ pub(crate) fn joined(alloc: Global, words: &[&[u8]]) -> Result<Bytes, Memory>
 }
 
 fn append_words(line: &mut Bytes, mut words: &[&[u8]]) -> Result<(), Memory>
-    ensures { OnOk result (line.new ≡ line.old ++ flat_map (λ word. 32 ∷ word) (map (λ word. word.now) words.entry.now)) }
+    ensures { OnOk result (line.new
+        ≡ line.old ++ flat_map (λ word. 32 ∷ word) (map (λ word. word.now) words.entry.now)) }
 {
     while let [word, rest @ ..] = words {
         line.append(b" ")?;

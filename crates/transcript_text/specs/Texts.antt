@@ -19,7 +19,8 @@ abbrev pub labelled : (label : List ℕ) → List (List ℕ) → List ℕ
 labelled label [] = label ++ codes " -"
 labelled label (w ∷ ws) = label ++ flat_map (λ v. 32 ∷ v) (w ∷ ws)
 
--- a canonical pattern as a number of its type: in decimal, or in hexadecimal for floats and pointers
+-- a canonical pattern as a number of its type: in decimal, or in hexadecimal for floats and
+-- pointers
 abbrev pub value_text : CType → ℕ → List ℕ
 value_text c.I8 p = decimal_text (cast_signed w64 p)
 value_text c.I16 p = decimal_text (cast_signed w64 p)
@@ -42,7 +43,9 @@ bytes_words [] = []
 bytes_words (b ∷ bytes) = flat_map (hex_digits_fixed 2) (b ∷ bytes) ∷ []
 
 abbrev pub slot_text : ℕ → List ℕ
-slot_text slot = ended (codes "slot " ++ decimal_text (pos slot) ++ codes " entry " ++ hex_digits (entry_of slot))
+slot_text slot =
+    ended (codes "slot " ++ decimal_text (pos slot) ++ codes " entry "
+    ++ hex_digits (entry_of slot))
 
 -- the registers that take arguments, and the stack
 unfoldable pub frame_text : Conv → FrameView → List ℕ

@@ -9,8 +9,8 @@ use crate::refusals::{Refusal, refusal_words};
 use std::alloc::Global;
 use xp_base::{Bytes, Memory, dec_text, hex_fixed, hex_text};
 
-/// Which slot a call goes through: `slot S entry E`, with the slot in decimal and its entry address in hexadecimal.
-/// The one error is want of memory.
+/// Which slot a call goes through: `slot S entry E`, with the slot in decimal and its entry address
+/// in hexadecimal. The one error is want of memory.
 pub fn slot_line(alloc: Global, slot: u16) -> Result<Bytes, Memory>
     ensures { IfOk result (λ line. line ≡ slot_text slot) }
 {
@@ -20,15 +20,16 @@ pub fn slot_line(alloc: Global, slot: u16) -> Result<Bytes, Memory>
     line_of(alloc, b"slot ", words.as_slice())
 }
 
-/// What the called one received: `got`, and the words, each behind a space; `-` stands for no words. The one error is
-/// want of memory.
+/// What the called one received: `got`, and the words, each behind a space; `-` stands for no
+/// words. The one error is want of memory.
 pub fn got_line(alloc: Global, words: &[Bytes]) -> Result<Bytes, Memory>
     ensures { IfOk result (λ line. line ≡ ended (labelled (codes "got") words.now)) }
 {
     words_line(alloc, b"got", words)
 }
 
-/// What a call answered: `result STATUS`, with the status in 8 hexadecimal digits. The one error is want of memory.
+/// What a call answered: `result STATUS`, with the status in 8 hexadecimal digits. The one error is
+/// want of memory.
 pub fn result_line(alloc: Global, status: u32) -> Result<Bytes, Memory>
     ensures { IfOk result (λ line. line ≡ result_text status) }
 {
@@ -36,7 +37,8 @@ pub fn result_line(alloc: Global, status: u32) -> Result<Bytes, Memory>
     line_of(alloc, b"result ", digits.as_slice())
 }
 
-/// Why a line of the script is refused: `refused`, and the refusal in words. The one error is want of memory.
+/// Why a line of the script is refused: `refused`, and the refusal in words. The one error is want
+/// of memory.
 pub fn refused_line(alloc: Global, refusal: Refusal) -> Result<Bytes, Memory>
     ensures { IfOk result (λ line. line ≡ ended (codes "refused " ++ refusal_text refusal)) }
 {
@@ -44,7 +46,8 @@ pub fn refused_line(alloc: Global, refusal: Refusal) -> Result<Bytes, Memory>
     line_of(alloc, b"refused ", words.as_slice())
 }
 
-/// Where the heap has what a line of the script made: `at ADDRESS`, in hexadecimal. The one error is want of memory.
+/// Where the heap has what a line of the script made: `at ADDRESS`, in hexadecimal. The one error
+/// is want of memory.
 pub fn at_line(alloc: Global, address: u64) -> Result<Bytes, Memory>
     ensures { IfOk result (λ line. line ≡ ended (codes "at " ++ hex_digits address)) }
 {
@@ -69,7 +72,8 @@ fn line_of(alloc: Global, text: &[u8], rest: &[u8]) -> Result<Bytes, Memory>
     Ok(line)
 }
 
-/// A label and words in one line, each word behind a space; `-` stands for no words. The one error is want of memory.
+/// A label and words in one line, each word behind a space; `-` stands for no words. The one error
+/// is want of memory.
 pub(crate) fn words_line(alloc: Global, label: &[u8], words: &[Bytes]) -> Result<Bytes, Memory>
     ensures { IfOk result (λ line. line ≡ ended (labelled label.now words.now)) }
 {

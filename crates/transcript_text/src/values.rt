@@ -8,8 +8,8 @@ use call_model::CType;
 use std::alloc::Global;
 use xp_base::{Bytes, Memory, dec_text, hex_text};
 
-/// A canonical pattern as a number of its type: in decimal, but in hexadecimal behind `0x` for floats and pointers.
-/// The one error is want of memory.
+/// A canonical pattern as a number of its type: in decimal, but in hexadecimal behind `0x` for
+/// floats and pointers. The one error is want of memory.
 pub fn value_word(alloc: Global, ty: CType, pattern: u64) -> Result<Bytes, Memory>
     ensures { IfOk result (λ word. word ≡ value_text ty pattern) }
 {
