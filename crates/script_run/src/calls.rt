@@ -1,113 +1,109 @@
-//! Calls.
+//! Calls and enters.
 
-ghost use Rattle.std.specs.Prelude.{◌≡◌, ◌≤◌, ◌++◌, IfOk, codes, length};
-ghost use Rattle.call_model.specs.declared.places.Conv as Conventions;
-ghost use Rattle.call_model.specs.Values.{frame_of};
+ghost use Rattle.std.specs.Prelude.{◌≡◌};
 ghost use Rattle.call_scripts.specs.declared.script.Act.TheVariants as acts;
-ghost use Rattle.lib_model.specs.Table.{table_of};
-ghost use Rattle.lib_model.specs.Thin.{IsThin};
-ghost use Rattle.object_memory.specs.Lends.{with_frame};
-ghost use Rattle.transcript_text.specs.declared.refusals.Refusal.TheVariants as refusal;
-ghost use Rattle.transcript_text.specs.Texts as texts;
-ghost use Rattle.script_run.specs.Answers.{Answers, Gives};
-ghost use Rattle.script_run.specs.Calls.{IsTarget, words_of};
-ghost use Rattle.script_run.specs.Stages.{IsStage, state_of};
-ghost use Rattle.script_run.specs.Step as steps;
+ghost use Rattle.script_meaning.specs.Step as steps;
+ghost use Rattle.script_run.specs.Runners.{IsReady, table_in};
+ghost use Rattle.script_run.specs.Runs.{Comes, looks_of};
 
-use crate::arguments::{Passed, pass_arguments};
-use crate::members::member_named;
-use crate::stages::Stage;
-use crate::step_error::StepError;
-use call_model::{Conv, Convention};
-use call_scripts::{ArgWord, MemberRef, Target};
-use descriptor_reader::Typelib;
-use invoke_by_index::fill_frame;
-use object_memory::Machine;
-use std::alloc::Global;
-use transcript_text::{Refusal, frame_lines, got_line, result_line, slot_line, value_word};
-use xp_base::{Bytes, List, Memory};
+use crate::runner::Runner;
+use begun_calls::{begin_call, begin_enter};
+use call_scripts::{ArgWord, EnterItem, MemberRef, Target};
+use machine_bench::Bench;
+use made_calls::make_call;
+use script_stage::StepError;
+use transcript_text::Refusal;
+use xp_base::{Bytes, List};
 
-/// The result of a call that no reply was told for: not implemented.
-const NO_REPLY: u32 = 0x8000_4001;
-
-/// Calls an object, and tells the call. It is refused where the script has no such object, there is no such interface or
-/// method, the arguments are not as many as the parameters, or a number is not in the range of its type.
-pub(crate) fn call_object<C: Convention>(
-    stage: &mut Stage,
-    alloc: Global,
-    lib: &Typelib<'_>,
-    target: &Target,
-    member: &MemberRef,
-    args: &List<ArgWord>,
-) -> Result<Bytes, StepError>
-    requires library { IsThin lib.now }
-    requires stage { IsStage C.CONV stage.old }
-    ensures { Answers C.CONV stage.old stage.new result (steps.act_step (table_of lib.now) C.CONV (state_of stage.old.objects) (acts.Call target.now member.now args.now)) }
-{
-    let this = address_of(stage, target)?;
-    let method = member_named(lib, member)?;
-    let passed = pass_arguments(alloc, C::CONV, this, &method, args.as_slice())?;
-    begin_call::<C>(&mut stage.machine, &passed);
-    Ok(call_lines(&stage.machine, alloc, C::CONV, method.slot(), &passed)?)
-}
-
-/// The address of a target.
-fn address_of(stage: &Stage, target: &Target) -> Result<u64, StepError>
-    ensures { (conv : Conventions.Conv) → IsStage conv stage.now → Gives IsTarget result (steps.or_else (steps.target_of conv (state_of stage.now.objects) target.now) refusal.NoName) }
-{
-    let Target::Block(name) = target else {
-        return Err(StepError::Refused(Refusal::NoName));
-    };
-    match stage.find(name.as_slice()) {
-        Some(object) => Ok(object.address),
-        None => Err(StepError::Refused(Refusal::NoName)),
+impl<'a> Runner<'a> {
+    /// Calls a member of an object, with arguments. It is refused, in this order, where a name of
+    /// the line has no block or variable; where there is no such member that may be called; where
+    /// the arguments don't fit it; and where the target is no object, or one of another interface.
+    pub(crate) fn call<B: Bench>(
+        &mut self,
+        target: &Target,
+        member: &'a MemberRef,
+        words: &'a List<ArgWord>,
+        bench: &mut B,
+    ) -> Result<Bytes, StepError>
+        requires { IsReady self.old }
+        ensures comes { Comes
+            (table_in self.old)
+            (λ state. steps.outcome
+            (table_in self.old)
+            self.old.stage.machine.conv
+            state
+            (acts.Call target.now member.now words.now))
+            self.old.stage
+            self.new.stage
+            (looks_of B.seen bench.old bench.new)
+            result }
+        ensures typelib { self.new.typelib.now ≡ self.old.typelib.now }
+        ensures members { self.new.members.library ≡ self.old.members.library }
+    {
+        let alloc = self.alloc;
+        let Some(this) = self.stage.number_of_target(target) else {
+            return Err(StepError::Refused(Refusal::NoName));
+        };
+        let Some(args) = self.stage.args_of(alloc, words.as_slice())? else {
+            return Err(StepError::Refused(Refusal::NoName));
+        };
+        self.members.remember(member)?;
+        let found = self.members.member_named(member)?;
+        let begun = begin_call(self.typelib, &mut self.stage, found, this, args.as_slice())?;
+        let text = make_call(
+            alloc,
+            self.typelib,
+            &mut self.stage,
+            begun,
+            &found.method,
+            words.as_slice(),
+            bench,
+        )?;
+        Ok(text)
     }
-}
 
-/// Fills the frame of a call. Nothing else of the machine changes.
-fn begin_call<C: Convention>(machine: &mut Machine, passed: &Passed)
-    requires few { length passed.now.types ≤ 256 }
-    requires paired { length passed.now.types ≡ length passed.now.patterns }
-    ensures { machine.new ≡ with_frame machine.old (frame_of C.CONV passed.now.types passed.now.patterns) }
-{
-    fill_frame::<C>(
-        machine.frame_mut(),
-        passed.types.as_slice(),
-        passed.patterns.as_slice(),
-    );
-}
-
-/// What is told of a call whose frame is filled. The one error is want of memory.
-fn call_lines(
-    machine: &Machine,
-    alloc: Global,
-    conv: Conv,
-    slot: u16,
-    passed: &Passed,
-) -> Result<Bytes, Memory>
-    requires frame { machine.now.frame ≡ frame_of conv passed.now.types passed.now.patterns }
-    requires object { 1 ≤ length passed.now.types }
-    requires paired { length passed.now.types ≡ length passed.now.patterns }
-    ensures { IfOk result (λ text. text ≡ texts.slot_text slot ++ (texts.frame_text conv machine.now.frame ++ (texts.ended (texts.labelled (codes "got") (words_of passed.now)) ++ texts.result_text steps.no_reply))) }
-{
-    let mut text = slot_line(alloc, slot)?;
-    text.append(frame_lines(alloc, conv, machine.frame())?.as_slice())?;
-    text.append(got_line(alloc, words(alloc, passed)?.as_slice())?.as_slice())?;
-    text.append(result_line(alloc, NO_REPLY)?.as_slice())?;
-    Ok(text)
-}
-
-/// The values that a call passes, without the object's address, as words. The one error is want of memory.
-fn words(alloc: Global, passed: &Passed) -> Result<List<Bytes>, Memory>
-    requires object { 1 ≤ length passed.now.types }
-    requires paired { length passed.now.types ≡ length passed.now.patterns }
-    ensures { IfOk result (λ words. words ≡ words_of passed.now) }
-{
-    let types = passed.types.as_slice();
-    let patterns = passed.patterns.as_slice();
-    let mut words = List::new(alloc);
-    for i in 1..types.len() {
-        words.push(value_word(alloc, types[i], patterns[i])?)?;
+    /// Enters a member of an object, with the items of a frame. It is refused, in this order, where
+    /// no block has the name; where there is no such member that may be called; where the frame
+    /// does not take an item; where the block is no object, or one of another interface; and where
+    /// the stack is shorter than the arguments need.
+    pub(crate) fn enter<B: Bench>(
+        &mut self,
+        name: &[u8],
+        member: &'a MemberRef,
+        items: &List<EnterItem>,
+        bench: &mut B,
+    ) -> Result<Bytes, StepError>
+        requires { IsReady self.old }
+        ensures comes { Comes
+            (table_in self.old)
+            (λ state. steps.outcome
+            (table_in self.old)
+            self.old.stage.machine.conv
+            state
+            (acts.Enter name.now member.now items.now))
+            self.old.stage
+            self.new.stage
+            (looks_of B.seen bench.old bench.new)
+            result }
+        ensures typelib { self.new.typelib.now ≡ self.old.typelib.now }
+        ensures members { self.new.members.library ≡ self.old.members.library }
+    {
+        if self.stage.named(name).is_none() {
+            return Err(StepError::Refused(Refusal::NoName));
+        }
+        self.members.remember(member)?;
+        let found = self.members.member_named(member)?;
+        let begun = begin_enter(self.typelib, &mut self.stage, found, name, items.as_slice())?;
+        let text = make_call(
+            self.alloc,
+            self.typelib,
+            &mut self.stage,
+            begun,
+            &found.method,
+            &[],
+            bench,
+        )?;
+        Ok(text)
     }
-    Ok(words)
 }

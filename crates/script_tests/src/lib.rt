@@ -1,8 +1,11 @@
-//! Tests of what no clause of `call_scripts`, `transcript_text`, `script_outs` and `script_run`
-//! says: which trees and echoes the forms of a line have, the text of a transcript, and that the
-//! calls succeed.
+//! Tests of what no clause of the crates of scripts says: which trees and echoes the forms of a
+//! line have, the text of a transcript, and that the calls succeed.
 #![tactic(auto)]
 
+#[cfg(test)]
+mod entered;
+#[cfg(test)]
+mod members;
 #[cfg(test)]
 mod outs;
 #[cfg(test)]
@@ -10,4 +13,8 @@ mod runs;
 #[cfg(test)]
 mod scripts;
 #[cfg(test)]
+mod stages;
+#[cfg(test)]
 mod transcripts;
+#[cfg(test)]
+mod typelibs;

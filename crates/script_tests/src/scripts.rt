@@ -2,11 +2,11 @@
 //! the number of each line.
 
 use call_model::Conv;
-use call_scripts::{Script, ScriptError, convention, read_front, read_script};
-use std::alloc::{AllocError, Global};
+use call_scripts::{Line, ScriptError, convention, read_front, read_script};
+use std::alloc::Global;
 use std::process::Abort;
 use std::test::Fail;
-use xp_base::MAX_TEXT;
+use xp_base::{Bytes, MAX_TEXT};
 
 /// A line, the tree of what it does, and its echo.
 const FORMS: [(&str, &str, &str); 16] = [
@@ -80,17 +80,28 @@ const FORMS: [(&str, &str, &str); 16] = [
     ),
 ];
 
+/// The tree and the echo of a text of one line.
+fn told(rt: &impl Abort, alloc: Global, text: &str) -> Result<(String, Bytes), Fail> {
+    assert!(rt; text.len() <= MAX_TEXT);
+    let script = read_script(alloc, text.as_bytes())?;
+    assert!(rt; script.lines.len() == 1, "lines of {text}");
+    let line = script.lines.get(0).expect(rt, "a line");
+    let tree = format!(in alloc; "{:?}", line.act)?;
+    let echo = Bytes::copy(alloc, line.echo.as_slice())?;
+    Ok((tree, echo))
+}
+
+/// What was found of a text is what was wanted.
+fn check(rt: &impl Abort, text: &str, found: &[u8], wanted: &str) {
+    assert_eq!(rt; found, wanted.as_bytes(), "at {text}");
+}
+
 #[test]
 fn forms_are_read(rt: HostRuntime) -> Result<(), Fail> {
-    let alloc = rt.alloc();
-    for (text, tree, echo) in FORMS {
-        assert!(rt; text.len() <= MAX_TEXT);
-        let script = read_script(alloc, text.as_bytes())?;
-        assert_eq!(rt; script.lines.len(), 1, "at {text}");
-        let line = script.lines.get(0).expect(&rt, "a line");
-        let act = format!(in alloc; "{:?}", line.act)?;
-        assert_eq!(rt; act.as_str(), tree, "at {text}");
-        assert_eq!(rt; line.echo.as_slice(), echo.as_bytes(), "at {text}");
+    for (text, wanted, echoed) in &FORMS {
+        let (tree, echo) = told(&rt, rt.alloc(), text)?;
+        check(&rt, text, tree.as_bytes(), wanted);
+        check(&rt, text, echo.as_slice(), echoed);
     }
     Ok(())
 }
@@ -156,12 +167,9 @@ const NEAR_MISSES: [&str; 46] = [
 
 #[test]
 fn near_misses_are_faults(rt: HostRuntime) {
-    for text in NEAR_MISSES {
-        assert_eq!(rt;
-            fault_line(&rt, rt.alloc(), text.as_bytes()),
-            1,
-            "at {text}"
-        );
+    for text in &NEAR_MISSES {
+        let line = fault_line(&rt, rt.alloc(), text.as_bytes());
+        assert!(rt; line == 1, "at {text}");
     }
 }
 
@@ -179,8 +187,8 @@ const CONVENTIONS: [(&str, Option<Conv>); 8] = [
 
 #[test]
 fn conventions_have_names(rt: HostRuntime) {
-    for (word, conv) in CONVENTIONS {
-        assert_eq!(rt; convention(word.as_bytes()), conv, "at {word}");
+    for (word, conv) in &CONVENTIONS {
+        assert!(rt; convention(word.as_bytes()) == *conv, "at {word}");
     }
 }
 
@@ -188,10 +196,10 @@ fn conventions_have_names(rt: HostRuntime) {
 fn names_have_at_most_255_bytes(rt: HostRuntime) {
     let mut line = [b'n'; 261];
     line[..5].copy_from_slice(b"show ");
-    for (text, fault) in [(&line[..260], 0), (&line[..261], 1)] {
-        let len = text.len();
-        assert_eq!(rt; fault_line(&rt, rt.alloc(), text), fault, "at {len} bytes");
-    }
+    let longest = fault_line(&rt, rt.alloc(), &line[..260]);
+    assert!(rt; longest == 0, "at 255 bytes");
+    let longer = fault_line(&rt, rt.alloc(), &line);
+    assert!(rt; longer == 1, "at 256 bytes");
 }
 
 /// Texts, and the line of each that is the first with no reading.
@@ -206,45 +214,48 @@ const FAULTY: [(&[u8], u32); 6] = [
 
 #[test]
 fn the_first_fault_is_blamed(rt: HostRuntime) {
-    for (text, line) in FAULTY {
-        assert_eq!(rt; fault_line(&rt, rt.alloc(), text), line, "at {text:?}");
+    for (text, wanted) in &FAULTY {
+        let line = fault_line(&rt, rt.alloc(), text);
+        assert!(rt; line == *wanted, "at {text:?}");
     }
 }
 
-/// The numbers of the lines that do something.
-fn numbers(alloc: Global, script: &Script) -> Result<Vec<u32>, AllocError> {
-    let mut numbers = Vec::new(alloc);
-    for line in script.lines.as_slice() {
-        numbers.push(line.number)?;
+/// Texts, and the numbers of the lines of each that do something.
+const COUNTED: [(&str, &[u32]); 2] = [("# note\n\n \t\nshow b\r\n#\nshow c", &[4, 6]), ("", &[])];
+
+/// Whether lines have these numbers.
+fn have_numbers(lines: &[Line], numbers: &[u32]) -> bool {
+    for (line, number) in lines.iter().zip(numbers) {
+        if line.number != *number {
+            return false;
+        }
     }
-    Ok(numbers)
+    lines.len() == numbers.len()
 }
 
 #[test]
 fn all_lines_are_counted(rt: HostRuntime) -> Result<(), Fail> {
-    let alloc = rt.alloc();
-    for (text, want) in [
-        ("# note\n\n \t\nshow b\r\n#\nshow c", [4, 6].as_slice()),
-        ("", [].as_slice()),
-    ] {
+    for (text, numbers) in &COUNTED {
         assert!(rt; text.len() <= MAX_TEXT);
-        let script = read_script(alloc, text.as_bytes())?;
-        assert_eq!(rt; numbers(alloc, &script)?.as_slice(), want, "at {text}");
+        let script = read_script(rt.alloc(), text.as_bytes())?;
+        assert!(rt; have_numbers(script.lines.as_slice(), numbers), "at {text}");
     }
     Ok(())
 }
 
+/// Texts, how many lines the front of each has, and the line of its fault.
+const FRONTS: [(&str, usize, Option<u32>); 2] = [
+    ("object o nsIA\njump\nobject p nsIA", 1, Some(2)),
+    ("object o nsIA\n\nobject p nsIA", 2, None),
+];
+
 #[test]
 fn a_front_ends_before_a_fault(rt: HostRuntime) -> Result<(), Fail> {
-    let alloc = rt.alloc();
-    for (text, lines, fault) in [
-        ("object o nsIA\njump\nobject p nsIA", 1, Some(2)),
-        ("object o nsIA\n\nobject p nsIA", 2, None),
-    ] {
+    for (text, lines, fault) in &FRONTS {
         assert!(rt; text.len() <= MAX_TEXT);
-        let front = read_front(alloc, text.as_bytes())?;
-        assert_eq!(rt; front.script.lines.len(), lines, "at {text}");
-        assert_eq!(rt; front.fault, fault, "at {text}");
+        let front = read_front(rt.alloc(), text.as_bytes())?;
+        let is_told = front.script.lines.len() == *lines && front.fault == *fault;
+        assert!(rt; is_told, "at {text}");
     }
     Ok(())
 }

@@ -2,6 +2,7 @@
 
 use call_model::{CType, Conv};
 use object_memory::{Machine, Width};
+use std::process::Abort;
 use std::test::Fail;
 use transcript_text::{
     Refusal, at_line, echo_line, frame_lines, got_line, refused_line, result_line, slot_line,
@@ -9,18 +10,25 @@ use transcript_text::{
 };
 use xp_base::Bytes;
 
+/// The text that was made is what was wanted.
+fn check(rt: &impl Abort, made: &Bytes, wanted: &str) {
+    assert_eq!(rt; made.as_slice(), wanted.as_bytes(), "for {wanted}");
+}
+
+/// Types, patterns, and the words of their values.
+const VALUES: [(CType, u64, &str); 6] = [
+    (CType::I32, u64::MAX, "-1"),
+    (CType::I8, 0x7f, "127"),
+    (CType::U64, u64::MAX, "18446744073709551615"),
+    (CType::Bool, 1, "1"),
+    (CType::Ptr, 0x107d0, "0x107d0"),
+    (CType::F32, 0, "0x0"),
+];
+
 #[test]
 fn values_are_numbers_of_their_types(rt: HostRuntime) -> Result<(), Fail> {
-    for (ty, pattern, word) in [
-        (CType::I32, u64::MAX, "-1"),
-        (CType::I8, 0x7f, "127"),
-        (CType::U64, u64::MAX, "18446744073709551615"),
-        (CType::Bool, 1, "1"),
-        (CType::Ptr, 0x107d0, "0x107d0"),
-        (CType::F32, 0, "0x0"),
-    ] {
-        let text = value_word(rt.alloc(), ty, pattern)?;
-        assert_eq!(rt; text.as_slice(), word.as_bytes(), "for {word}");
+    for (ty, pattern, word) in &VALUES {
+        check(&rt, &value_word(rt.alloc(), *ty, *pattern)?, word);
     }
     Ok(())
 }
@@ -29,19 +37,23 @@ fn values_are_numbers_of_their_types(rt: HostRuntime) -> Result<(), Fail> {
 fn lines_are_worded(rt: HostRuntime) -> Result<(), Fail> {
     let alloc = rt.alloc();
     let words = [Bytes::copy(alloc, b"-1")?, Bytes::copy(alloc, b"0x0")?];
-    for (line, text) in [
-        (slot_line(alloc, 3)?, "slot 3 entry 1030\n"),
-        (got_line(alloc, &[])?, "got -\n"),
-        (got_line(alloc, &words)?, "got -1 0x0\n"),
-        (result_line(alloc, 0x80004001)?, "result 80004001\n"),
-        (result_line(alloc, 0)?, "result 00000000\n"),
-        (refused_line(alloc, Refusal::Range(0))?, "refused range 0\n"),
-        (refused_line(alloc, Refusal::NoName)?, "refused no name\n"),
-        (at_line(alloc, 0x107d0)?, "at 107d0\n"),
-        (echo_line(alloc, b"cells 1")?, "> cells 1\n"),
-    ] {
-        assert_eq!(rt; line.as_slice(), text.as_bytes(), "for {text}");
-    }
+    check(&rt, &slot_line(alloc, 3)?, "slot 3 entry 1030\n");
+    check(&rt, &got_line(alloc, &[])?, "got -\n");
+    check(&rt, &got_line(alloc, &words)?, "got -1 0x0\n");
+    check(&rt, &result_line(alloc, 0x80004001)?, "result 80004001\n");
+    check(&rt, &result_line(alloc, 0)?, "result 00000000\n");
+    check(
+        &rt,
+        &refused_line(alloc, Refusal::Range(0))?,
+        "refused range 0\n",
+    );
+    check(
+        &rt,
+        &refused_line(alloc, Refusal::NoName)?,
+        "refused no name\n",
+    );
+    check(&rt, &at_line(alloc, 0x107d0)?, "at 107d0\n");
+    check(&rt, &echo_line(alloc, b"cells 1")?, "> cells 1\n");
     Ok(())
 }
 
@@ -68,12 +80,15 @@ fn a_frame_has_three_lines(rt: HostRuntime) -> Result<(), Fail> {
     frame.set_stack(0, Width::W8, 6);
     frame.set_stack(8, Width::W8, 7);
     let empty = Machine::new(alloc, Conv::I386)?;
-    for (conv, frame, lines) in [
-        (Conv::SysV64, full.frame(), FULL_FRAME),
-        (Conv::I386, empty.frame(), EMPTY_FRAME),
-    ] {
-        let text = frame_lines(alloc, conv, frame)?;
-        assert_eq!(rt; text.as_slice(), lines.as_bytes(), "for {lines}");
-    }
+    check(
+        &rt,
+        &frame_lines(alloc, Conv::SysV64, full.frame())?,
+        FULL_FRAME,
+    );
+    check(
+        &rt,
+        &frame_lines(alloc, Conv::I386, empty.frame())?,
+        EMPTY_FRAME,
+    );
     Ok(())
 }

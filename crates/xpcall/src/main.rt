@@ -1,6 +1,8 @@
-//! The program `xpcall`: real files, standard output and standard error, and the words of the command line.
+//! The program `xpcall`: real files, standard output and standard error, and the words of the
+//! command line.
 #![tactic(auto)]
 
+use machine_bench::NoBench;
 use std::env::Env;
 use std::io::ErrorKind;
 use std::process::ExitCode;
@@ -31,5 +33,14 @@ fn main(rt: HostRuntime) -> ExitCode {
     let mut files = FileSource::new(&rt);
     let mut out = StdoutSink::new(rt.stdout());
     let mut err = StderrSink::new(rt.stderr());
-    ExitCode::from(run(rt.alloc(), words.as_slice(), &mut files, &mut out, &mut err))
+    let mut bench = NoBench::new();
+    let status = run(
+        rt.alloc(),
+        words.as_slice(),
+        &mut files,
+        &mut out,
+        &mut err,
+        &mut bench,
+    );
+    ExitCode::from(status)
 }

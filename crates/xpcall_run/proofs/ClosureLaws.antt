@@ -14,7 +14,7 @@ use Rattle.xpcall_run.specs.declared.failures.Refusal.{Refusal}
 use Rattle.xpcall_run.specs.declared.failures.Refusal.TheVariants.{OfFile}
 use Rattle.xpcall_run.specs.ClosureWork.{CanClose, CanStop, Closes, RefusedFor, StopsClosing, closes}
 use Rattle.xpcall_run.specs.Endings.{IsRefused, Stops}
-use Rattle.xpcall_run.specs.Sides.{Reads}
+use Rattle.xpcall_run.specs.Sides.{Given, Reads}
 use Rattle.xpcall_run.specs.Works.{Outcome, Written, Denied, Work, nowhere, settles}
 use Rattle.xpcall_run.proofs.Outcomes.{Single}
 
@@ -122,7 +122,7 @@ fault_refused reads roots e name fault (Refused r) stops is made =
     fault_stops reads roots (λ list. nowhere) e r stops (is r made)
 
 no_outcome : (files : Option Files) (o : Outcome) → nowhere.comes files o → ⊥
-no_outcome files (Written text) h = h
+no_outcome files (Written given) h = h
 no_outcome files (Denied r) h = h
 
 stops_alone : (files : Option Files) (roots : List (List ℕ)) (next : List ClosedFile → Work)
@@ -140,7 +140,7 @@ first_closes reads roots next (Refused r) h = stops_alone reads.files roots next
 
 -- and what is refused of the files that it gives
 pub closed_stops : (reads : Reads) (roots : List (List ℕ))
-    (writes : List ClosedFile → List ℕ → Type 0) (refuses : List ClosedFile → Refusal → Type 0)
+    (writes : List ClosedFile → Given → Type 0) (refuses : List ClosedFile → Refusal → Type 0)
     (list : List ClosedFile) (f : Failure) → CanClose reads.files roots list
     → IsRefused (refuses list) f
     → Stops (closes roots (λ files. settles (writes files) (refuses files))) reads f

@@ -17,7 +17,7 @@ use Rattle.xpcall_run.proofs.Outcomes.{Settled, Single}
 command_single : (c : Command) → Single (command_work c)
 command_single (Compile roots) = compile_single roots
 command_single (Dump m) = dump_single m
-command_single (Call m n) = call_single m n
+command_single (Call conv m n) = call_single conv m n
 
 usage_settled : (files : Option Files) → Settled (work_of None) files
 usage_settled files (Written a) p h k = absurd h

@@ -11,7 +11,8 @@ use Rattle.prototype_lowering.specs.Limits.{IsFirstWide, KeepsLimits, NoneIsWide
 use Rattle.xpcall_run.specs.declared.failures.Refusal.{Refusal}
 use Rattle.xpcall_run.specs.CompileWork.{HasFewSlots, IsAccepted, IsFaultless, RefusesCounts, RefusesFaults, RefusesLibrary, RefusesMeaning, RefusesShape, RefusesSlots, RefusesWidth, WritesLibrary, compile_work, ifaces_in, library_work, refused_at}
 use Rattle.xpcall_run.proofs.ClosureLaws.{closes_single}
-use Rattle.xpcall_run.proofs.Outcomes.{IsSingle, Single, settles_single}
+use Rattle.xpcall_run.specs.Works.{Quietly}
+use Rattle.xpcall_run.proofs.Outcomes.{IsSingle, Single, quiet_single, settles_single}
 
 -- ---- of two reasons, the first
 
@@ -160,13 +161,13 @@ faults_apart : (files : List ClosedFile) (r : Refusal) → RefusesFaults files r
 faults_apart files r (inl a) is = meaning_apart files r a is.faultless
 faults_apart files r (inr a) is = shape_apart files r a.1 is
 
-library_single : (files : List ClosedFile) → IsSingle (WritesLibrary files) (RefusesFaults files)
-library_single files = record {
-  text = λ a b w v. w.emitted ∙ sym v.emitted;
-  refusal = faults_once files;
-  apart = λ a r w why. faults_apart files r why w.accepted;
-}
+library_single : (files : List ClosedFile)
+    → IsSingle (Quietly (WritesLibrary files)) (RefusesFaults files)
+library_single files =
+    quiet_single (WritesLibrary files) (RefusesFaults files) (λ a b w v. w.emitted ∙ sym v.emitted)
+    (faults_once files) (λ a r w why. faults_apart files r why w.accepted)
 
 pub compile_single : (roots : List (List ℕ)) → Single (compile_work roots)
 compile_single roots = closes_single roots library_work
-    (λ files. settles_single (WritesLibrary files) (RefusesFaults files) (library_single files))
+    (λ files.
+    settles_single (Quietly (WritesLibrary files)) (RefusesFaults files) (library_single files))

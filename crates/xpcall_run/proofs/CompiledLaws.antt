@@ -1,11 +1,12 @@
 -- What a run of `compile` writes, by what its parts give.
-use Rattle.std.proofs.Common.{ℕ, List, Option, Result, Ok, Err, IfOk}
+use Rattle.std.proofs.Common.{ℕ, List, Option, Result, Ok, Err, IfOk, refl}
 use Rattle.xp_base.specs.Files.{Files}
 use Rattle.idl_grammar.specs.declared.tree.ClosedFile.{ClosedFile}
 use Rattle.xpcall_run.specs.declared.failures.Failure.{Failure}
 use Rattle.xpcall_run.specs.ClosureWork.{CanClose}
 use Rattle.xpcall_run.specs.CompileWork.{StandsFor, WritesLibrary, compile_work, library_work}
 use Rattle.xpcall_run.specs.Compiled.{IsTypelibOf}
+use Rattle.xpcall_run.specs.Sides.{text_alone}
 use Rattle.xpcall_run.specs.Works.{Written}
 use Rattle.xpcall_run.proofs.ClosureLaws.{closes_comes}
 
@@ -18,6 +19,6 @@ typelib_made files roots list (Ok text) closed written stands =
 typelib_made files roots list (Err f) closed written stands = tt
 
 pub typelib_comes : (files : Option Files) (roots : List (List ℕ)) (text : List ℕ)
-    → IsTypelibOf files roots text → (compile_work roots).comes files (Written text)
+    → IsTypelibOf files roots text → (compile_work roots).comes files (Written (text_alone text))
 typelib_comes files roots text is =
-    closes_comes files roots library_work is.list (Written text) is.closed is.written
+    closes_comes files roots library_work is.list (Written (text_alone text)) is.closed (is.written, refl)

@@ -2,7 +2,7 @@
 use Rattle.std.proofs.Common.{◌≡◌, ◌⊎◌, ℕ, ◌<◌, List, length, inl, inr, refl, sym, subst, arith}
 use Rattle.std.proofs.Math.Seq.{take-length}
 use Rattle.xpcall_run.specs.declared.failures.FileFault.{FileFault}
-use Rattle.xpcall_run.specs.declared.failures.FileFault.TheVariants.{Missing, TooLong, Token, Syntax, Fault, Typelib, Form, Script}
+use Rattle.xpcall_run.specs.declared.failures.FileFault.TheVariants.{Missing, TooLong, Token, Syntax, Fault, Typelib, Script}
 use Rattle.xpcall_run.specs.declared.failures.Failure.{Failure}
 use Rattle.xpcall_run.specs.declared.failures.Failure.TheVariants.{CannotRead, CannotWrite, OutOfMemory, Refused}
 use Rattle.xpcall_run.specs.declared.failures.Refusal.{Refusal}
@@ -10,7 +10,8 @@ use Rattle.xpcall_run.specs.declared.failures.Refusal.TheVariants.{Usage, OfFile
 use Rattle.xpcall_run.specs.Endings.{Reports}
 use Rattle.xpcall_run.specs.FailureText.{failure_text, fault_status, refusal_status, status_of}
 use Rattle.xpcall_run.specs.Headline.{IsStatus}
-use Rattle.xpcall_run.specs.Sides.{Side, Got, GotNothing, GotPrefix, HasFailed}
+use Rattle.xpcall_run.specs.Sides.{Given, HasNone, HasSome, Output, Side, Got, GotNothing, GotPrefix, HasFailed}
+use Rattle.xpcall_run.proofs.Firsts.{kept}
 
 -- ---- prefixes
 
@@ -21,6 +22,12 @@ pub whole_is_prefix : (side : Side) (text : List ℕ) → Got side text → GotP
 whole_is_prefix side text whole =
     (length text, omega arith, subst (Got side) (sym (take-length text)) whole)
 
+pub none_is_some : (out : Output) (given : Given) → HasNone out → HasSome out given
+none_is_some out given none = (
+  nothing_is_prefix out.sink given.text none.0,
+  (0, omega arith, kept out.bench.before out.bench.after none.1),
+)
+
 -- ---- statuses
 
 fault_known : (fault : FileFault) → IsStatus (fault_status fault)
@@ -30,7 +37,6 @@ fault_known (Token line) = (7, omega arith, refl)
 fault_known (Syntax line) = (7, omega arith, refl)
 fault_known (Fault code line) = (7, omega arith, refl)
 fault_known (Typelib code place) = (8, omega arith, refl)
-fault_known Form = (8, omega arith, refl)
 fault_known (Script line) = (9, omega arith, refl)
 
 refusal_known : (refusal : Refusal) → IsStatus (refusal_status refusal)
@@ -52,7 +58,6 @@ fault_positive (Token line) = omega arith
 fault_positive (Syntax line) = omega arith
 fault_positive (Fault code line) = omega arith
 fault_positive (Typelib code place) = omega arith
-fault_positive Form = omega arith
 fault_positive (Script line) = omega arith
 
 refusal_positive : (refusal : Refusal) → 0 < refusal_status refusal

@@ -9,13 +9,13 @@ use Rattle.xpcall_run.specs.declared.failures.Failure.TheVariants.{CannotRead, C
 use Rattle.xpcall_run.specs.declared.failures.Refusal.{Refusal}
 use Rattle.xpcall_run.specs.declared.failures.Refusal.TheVariants.{OfFile}
 use Rattle.xpcall_run.specs.Endings.{IsRefused, Stops}
-use Rattle.xpcall_run.specs.Sides.{Reads}
+use Rattle.xpcall_run.specs.Sides.{Given, Reads}
 use Rattle.xpcall_run.specs.Works.{Work, Outcome, Written, Denied, Finds, Takes, TakesFound, nowhere, settles, takes}
 
 -- ---- the fetch itself
 
 no_outcome : (files : Option Files) (o : Outcome) → nowhere.comes files o → ⊥
-no_outcome files (Written text) h = h
+no_outcome files (Written given) h = h
 no_outcome files (Denied r) h = h
 
 -- what a fetch found that is longer than its limit is of a file that is
@@ -116,7 +116,7 @@ refused_as part whole OutOfMemory leads h = h
 refused_as part whole (Refused r) leads h = leads r h
 
 -- a refusal stops a work that settles
-pub settled_stops : (reads : Reads) (writes : List ℕ → Type 0) (refuses : Refusal → Type 0)
+pub settled_stops : (reads : Reads) (writes : Given → Type 0) (refuses : Refusal → Type 0)
     (f : Failure) → IsRefused refuses f → Stops (settles writes refuses) reads f
 settled_stops reads writes refuses (CannotRead n) h = absurd h
 settled_stops reads writes refuses CannotWrite h = h

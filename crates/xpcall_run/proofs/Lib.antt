@@ -7,7 +7,9 @@ pub mod CompiledLaws
 pub mod Ending
 pub mod Fetching
 pub mod Firsts
+pub mod JoinedLaws
 pub mod Outcomes
 pub mod RunLaws
+pub mod ScriptLaws
 pub mod TextLaws
 pub mod TypelibLaws

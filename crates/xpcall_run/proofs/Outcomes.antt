@@ -2,7 +2,8 @@
 use Rattle.std.proofs.Common.{◌≡◌, ℕ, ◌≤◌, List, length, Option, Some, None, inl, inr, refl, sym, ap, ◌∙◌, subst, arith}
 use Rattle.xp_base.specs.Files.{Files}
 use Rattle.xpcall_run.specs.declared.failures.Refusal.{Refusal}
-use Rattle.xpcall_run.specs.Works.{Work, Outcome, Written, Denied, Finds, Settles, Takes, TakesFound, settles, takes}
+use Rattle.xpcall_run.specs.Sides.{Given}
+use Rattle.xpcall_run.specs.Works.{Work, Outcome, Written, Denied, Finds, Quietly, Settles, Takes, TakesFound, settles, takes}
 
 -- over these files the work comes to one outcome
 abbrev pub Settled : Work → Option Files → Type 0
@@ -13,21 +14,40 @@ abbrev pub Single : Work → Type 0
 Single work = (told : Files) → Settled work (Some told)
 
 -- what is written, and what is refused, is one thing, and not both are
-pub record IsSingle (writes : List ℕ → Type 0) (refuses : Refusal → Type 0) : Type 0 where
-  pub text : (a b : List ℕ) → writes a → writes b → a ≡ b
+pub record IsSingle (writes : Given → Type 0) (refuses : Refusal → Type 0) : Type 0 where
+  pub given : (a b : Given) → writes a → writes b → a ≡ b
   pub refusal : (r s : Refusal) → refuses r → refuses s → r ≡ s
-  pub apart : (a : List ℕ) (r : Refusal) → writes a → refuses r → ⊥
+  pub apart : (a : Given) (r : Refusal) → writes a → refuses r → ⊥
 
-one_settled : (writes : List ℕ → Type 0) (refuses : Refusal → Type 0) → IsSingle writes refuses
+one_settled : (writes : Given → Type 0) (refuses : Refusal → Type 0) → IsSingle writes refuses
     → (o p : Outcome) → Settles writes refuses o → Settles writes refuses p → o ≡ p
-one_settled writes refuses one (Written a) (Written b) w v = ap Written (one.text a b w v)
+one_settled writes refuses one (Written a) (Written b) w v = ap Written (one.given a b w v)
 one_settled writes refuses one (Written a) (Denied r) w v = absurd (one.apart a r w v)
 one_settled writes refuses one (Denied r) (Written a) w v = absurd (one.apart a r v w)
 one_settled writes refuses one (Denied r) (Denied s) w v = ap Denied (one.refusal r s w v)
 
-pub settles_single : (writes : List ℕ → Type 0) (refuses : Refusal → Type 0)
+pub settles_single : (writes : Given → Type 0) (refuses : Refusal → Type 0)
     → IsSingle writes refuses → Single (settles writes refuses)
 settles_single writes refuses one told o p w v = one_settled writes refuses one o p w v
+
+-- where a text is written, and nothing shown
+quiet_once : (writes : List ℕ → Type 0) → ((a b : List ℕ) → writes a → writes b → a ≡ b)
+    → (a b : Given) → Quietly writes a → Quietly writes b → a ≡ b
+quiet_once writes one a b w v =
+    let texts : a.text ≡ b.text = one a.text b.text w.0 v.0 in
+    let sights : a.sights ≡ b.sights = w.1 ∙ sym v.1 in
+    (λ j. record { text = texts j; sights = sights j })
+
+pub quiet_single : (writes : List ℕ → Type 0) (refuses : Refusal → Type 0)
+    → ((a b : List ℕ) → writes a → writes b → a ≡ b)
+    → ((r s : Refusal) → refuses r → refuses s → r ≡ s)
+    → ((a : List ℕ) (r : Refusal) → writes a → refuses r → ⊥)
+    → IsSingle (Quietly writes) refuses
+quiet_single writes refuses text refusal apart = record {
+  given = quiet_once writes text;
+  refusal = refusal;
+  apart = λ a r w why. apart a.text r w.0 why;
+}
 
 one_taken : (limit : ℕ) (name : List ℕ) (next : List ℕ → Outcome → Type 0)
     → ((b : List ℕ) (o p : Outcome) → next b o → next b p → o ≡ p)

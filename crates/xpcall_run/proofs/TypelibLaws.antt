@@ -1,5 +1,5 @@
 -- What a typelib comes to: one library, or one first fault; and one listing.
-use Rattle.std.proofs.Common.{◌≡◌, ℕ, ◌≤◌, List, length, Option, Some, inl, inr, refl, sym, ap, ◌∙◌}
+use Rattle.std.proofs.Common.{◌≡◌, ℕ, ◌≤◌, List, length, Option, Some, refl, sym, ap, ◌∙◌}
 use Rattle.std.proofs.lemmas.Option.{same_Some}
 use Rattle.xp_base.specs.Files.{Files}
 use Rattle.xp_base.specs.declared.limits.TheConstants.{MAX_TYPELIB}
@@ -15,11 +15,11 @@ use Rattle.xpcall_run.specs.declared.failures.Failure.{Failure}
 use Rattle.xpcall_run.specs.declared.failures.Refusal.{Refusal}
 use Rattle.xpcall_run.specs.declared.failures.Refusal.TheVariants.{OfFile}
 use Rattle.xpcall_run.specs.Endings.{IsRefused, Stops}
-use Rattle.xpcall_run.specs.Sides.{Reads}
+use Rattle.xpcall_run.specs.Sides.{Reads, text_alone}
 use Rattle.xpcall_run.specs.TypelibWork.{RefusesTypelib, dump_work, listing_work}
-use Rattle.xpcall_run.specs.Works.{Finds, Written}
+use Rattle.xpcall_run.specs.Works.{Finds, Quietly, Written}
 use Rattle.xpcall_run.proofs.Fetching.{refused_as, settled_stops, takes_stops}
-use Rattle.xpcall_run.proofs.Outcomes.{IsSingle, Single, settles_single, takes_comes, takes_single}
+use Rattle.xpcall_run.proofs.Outcomes.{IsSingle, Single, quiet_single, settles_single, takes_comes, takes_single}
 
 -- ---- one library, or one fault
 
@@ -52,27 +52,27 @@ listing_once : (bytes a b : List ℕ) → IsListing bytes a → IsListing bytes 
 listing_once bytes a b p q =
     listing_of p.library bytes a p.denoted p ∙ sym (listing_of p.library bytes b p.denoted q)
 
-listing_single : (name bytes : List ℕ) → IsSingle (IsListing bytes) (RefusesTypelib name bytes)
-listing_single name bytes = record {
-  text = listing_once bytes;
-  refusal = typelib_once name bytes;
-  apart = λ a r p q. typelib_apart name bytes r p.library q p.denoted;
-}
+listing_single : (name bytes : List ℕ)
+    → IsSingle (Quietly (IsListing bytes)) (RefusesTypelib name bytes)
+listing_single name bytes =
+    quiet_single (IsListing bytes) (RefusesTypelib name bytes) (listing_once bytes)
+    (typelib_once name bytes) (λ a r p q. typelib_apart name bytes r p.library q p.denoted)
 
 pub dump_single : (name : List ℕ) → Single (dump_work name)
 dump_single name = takes_single MAX_TYPELIB name (listing_work name)
-    (λ bytes. settles_single (IsListing bytes) (RefusesTypelib name bytes) (listing_single name bytes))
+    (λ bytes.
+    settles_single (Quietly (IsListing bytes)) (RefusesTypelib name bytes) (listing_single name bytes))
 
 pub dump_comes : (files : Option Files) (name bytes : List ℕ) (lib : Library)
     → Finds files name (Some bytes) → length bytes ≤ MAX_TYPELIB → Denotes bytes lib
-    → (dump_work name).comes files (Written (listing lib))
+    → (dump_work name).comes files (Written (text_alone (listing lib)))
 dump_comes files name bytes lib finds within denoted =
-    takes_comes files MAX_TYPELIB name bytes (listing_work name) (Written (listing lib)) finds within
-    (record { library = lib; denoted = denoted; listed = refl })
+    takes_comes files MAX_TYPELIB name bytes (listing_work name) (Written (text_alone (listing lib)))
+    finds within (record { library = lib; denoted = denoted; listed = refl }, refl)
 
 pub dump_stops : (reads : Reads) (name bytes : List ℕ) (f : Failure)
     → Finds reads.files name (Some bytes) → length bytes ≤ MAX_TYPELIB
     → IsRefused (RefusesTypelib name bytes) f → Stops (dump_work name) reads f
 dump_stops reads name bytes f finds within refused =
     takes_stops reads MAX_TYPELIB name bytes (listing_work name) f finds within
-    (settled_stops reads (IsListing bytes) (RefusesTypelib name bytes) f refused)
+    (settled_stops reads (Quietly (IsListing bytes)) (RefusesTypelib name bytes) f refused)

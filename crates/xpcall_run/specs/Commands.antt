@@ -1,7 +1,8 @@
 -- Which words are a command, and which; and the work that each command is.
-use Rattle.std.specs.Prelude.{◌≡◌, ◌≤◌, ℕ, Bool, ◌&&◌, nat_le, List, [], ◌∷◌, length, map, Option, Some, None, codes, if◌then◌else◌, String, string_bytes}
+use Rattle.std.specs.Prelude.{◌≡◌, ◌≤◌, ℕ, Bool, ◌&&◌, nat_le, List, [], ◌∷◌, length, map, Option, Some, None, option_and_then, codes, if◌then◌else◌, String, string_bytes}
 use Rattle.std.specs.List.{list_all}
 use Rattle.std.specs.Str.{bytes_eq}
+use Rattle.call_scripts.specs.Reading.{conv_of}
 use Rattle.xpcall_run.specs.declared.commands.Command.{Command}
 use Rattle.xpcall_run.specs.declared.commands.Command.TheVariants.{Compile, Dump, Call}
 use Rattle.xpcall_run.specs.declared.failures.Refusal.TheVariants.{Usage}
@@ -30,12 +31,13 @@ abbrev pub dump_of : List (List ℕ) → Option Command
 dump_of (name ∷ []) = if is_file_name name then Some (Dump name) else None
 dump_of _ = None
 
--- behind `call`, the word of the one convention so far, and the names of a typelib and a script
+-- behind `call`, the word of a convention, and the names of a typelib and a script
 abbrev pub call_of : List (List ℕ) → Option Command
-call_of (convention ∷ typelib ∷ script ∷ []) =
-    if bytes_eq convention (codes "sysv64") && is_file_name typelib && is_file_name script
-    then Some (Call typelib script)
-    else None
+call_of (word ∷ typelib ∷ script ∷ []) =
+    option_and_then
+    (λ conv.
+    if is_file_name typelib && is_file_name script then Some (Call conv typelib script) else None)
+    (conv_of word)
 call_of _ = None
 
 -- the command that the words are
@@ -55,16 +57,16 @@ asked words = command_of (map string_bytes words)
 abbrev pub IsFit : Command → Type 0
 IsFit (Compile roots) = length roots ≤ 65535
 IsFit (Dump typelib) = Unit {0}
-IsFit (Call typelib script) = Unit {0}
+IsFit (Call conv typelib script) = Unit {0}
 
 -- ---- the works
 
 abbrev pub command_work : Command → Work
 command_work (Compile roots) = compile_work roots
 command_work (Dump typelib) = dump_work typelib
-command_work (Call typelib script) = call_work typelib script
+command_work (Call conv typelib script) = call_work conv typelib script
 
 -- words that are no command are refused, and no file is asked for
 abbrev pub work_of : Option Command → Work
-work_of None = settles (λ text. ⊥) (λ refusal. refusal ≡ Usage)
+work_of None = settles (λ given. ⊥) (λ refusal. refusal ≡ Usage)
 work_of (Some command) = command_work command

@@ -24,7 +24,7 @@ use Rattle.xpcall_run.specs.declared.failures.FileFault.TheVariants as fault
 use Rattle.xpcall_run.specs.declared.failures.Refusal.{Refusal}
 use Rattle.xpcall_run.specs.declared.failures.Refusal.TheVariants.{OfFile, OfFiles}
 use Rattle.xpcall_run.specs.ClosureWork.{closes}
-use Rattle.xpcall_run.specs.Works.{Work, settles}
+use Rattle.xpcall_run.specs.Works.{Work, Quietly, settles}
 
 -- ---- what is written
 
@@ -153,7 +153,7 @@ RefusesFaults files refusal =
 
 -- what is done with the files of the closure
 abbrev pub library_work : List ClosedFile → Work
-library_work files = settles (WritesLibrary files) (RefusesFaults files)
+library_work files = settles (Quietly (WritesLibrary files)) (RefusesFaults files)
 
 abbrev pub compile_work : (roots : List (List ℕ)) → Work
 compile_work roots = closes roots library_work

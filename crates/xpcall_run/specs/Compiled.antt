@@ -26,7 +26,7 @@ pub record HasCompiled (files : Option Files) (roots : List (List ℕ)) (out : S
 abbrev pub IsCompiled : Command → Option Files → (out : Side) → Type 0
 IsCompiled (Compile roots) files out = HasCompiled files roots out
 IsCompiled (Dump typelib) files out = Unit {0}
-IsCompiled (Call typelib script) files out = Unit {0}
+IsCompiled (Call conv typelib script) files out = Unit {0}
 
 abbrev pub IsCompiledBy : Option Command → Option Files → (out : Side) → Type 0
 IsCompiledBy None files out = Unit {0}

@@ -1,46 +1,48 @@
--- How a work ends: its text is written, or a failure comes first, from its cause.
-use Rattle.std.specs.Prelude.{◌≡◌, ◌⊎◌, ℕ, List, Option}
+-- How a work ends: it gives what it comes to, or a failure comes first, from its cause.
+use Rattle.std.specs.Prelude.{◌≡◌, ◌⊎◌, ℕ, Option}
 use Rattle.xp_base.specs.Files.{Files}
 use Rattle.xpcall_run.specs.declared.failures.Failure.{Failure}
 use Rattle.xpcall_run.specs.declared.failures.Failure.TheVariants.{CannotRead, CannotWrite, OutOfMemory, Refused}
 use Rattle.xpcall_run.specs.declared.failures.Refusal.{Refusal}
 use Rattle.xpcall_run.specs.FailureText.{failure_text, status_of}
-use Rattle.xpcall_run.specs.Sides.{Reads, Side, Got, GotNothing, GotPrefix, HasFailed, HasUnread}
+use Rattle.xpcall_run.specs.Sides.{Given, HasAll, HasNone, HasSome, Output, Reads, Side, Got, GotNothing, GotPrefix, HasFailed, HasUnread}
 use Rattle.xpcall_run.specs.Works.{Work, Written, Denied}
 
--- the work comes to a text
+-- the work comes to something to give
 abbrev pub CanWrite : Work → Option Files → Type 0
-CanWrite work files = (text : List ℕ) × work.comes files (Written text)
+CanWrite work files = (given : Given) × work.comes files (Written given)
 
--- the work comes to a text, and the output gained it
-pub record HasWritten (work : Work) (files : Option Files) (out : Side) : Type 0 where
-  pub text : List ℕ
-  pub comes : work.comes files (Written text)
-  pub got : Got out text
+-- the work comes to this, and it was given
+pub record HasWritten (work : Work) (files : Option Files) (out : Output) : Type 0 where
+  pub given : Given
+  pub comes : work.comes files (Written given)
+  pub got : HasAll out given
 
--- the work comes to a text, and the output gained a prefix of it
-pub record HasBegun (work : Work) (files : Option Files) (out : Side) : Type 0 where
-  pub text : List ℕ
-  pub comes : work.comes files (Written text)
-  pub got : GotPrefix out text
+-- the work comes to this, and first parts of it were given
+pub record HasBegun (work : Work) (files : Option Files) (out : Output) : Type 0 where
+  pub given : Given
+  pub comes : work.comes files (Written given)
+  pub got : HasSome out given
 
 -- The cause of a failure that comes first: the work can ask for the file, and the source failed; it
--- comes to a text, and the output failed; it comes to the refusal. Want of memory needs no cause.
-abbrev pub IsCause : Work → Reads → (out : Side) → Failure → Type 0
+-- comes to something to give, and the output failed; it comes to the refusal. Want of memory needs
+-- no cause.
+abbrev pub IsCause : Work → Reads → (out : Output) → Failure → Type 0
 IsCause work reads out (CannotRead name) = work.asks reads.files name × HasUnread reads
-IsCause work reads out CannotWrite = CanWrite work reads.files × HasFailed out
+IsCause work reads out CannotWrite = CanWrite work reads.files × HasFailed out.sink
 IsCause work reads out OutOfMemory = Unit {0}
 IsCause work reads out (Refused refusal) = work.comes reads.files (Denied refusal)
 
--- What the output gained before a failure: nothing, unless it came of the output or of memory.
-abbrev pub IsKept : Work → Option Files → (out : Side) → Failure → Type 0
-IsKept work files out (CannotRead name) = GotNothing out
+-- What output and bench gained before a failure: nothing, unless it came of the output or of
+-- memory.
+abbrev pub IsKept : Work → Option Files → (out : Output) → Failure → Type 0
+IsKept work files out (CannotRead name) = HasNone out
 IsKept work files out CannotWrite = HasBegun work files out
-IsKept work files out OutOfMemory = GotNothing out ⊎ HasBegun work files out
-IsKept work files out (Refused refusal) = GotNothing out
+IsKept work files out OutOfMemory = HasNone out ⊎ HasBegun work files out
+IsKept work files out (Refused refusal) = HasNone out
 
--- a failure came first, from its cause, and the output gained no more than it may
-pub record IsFirst (work : Work) (reads : Reads) (out : Side) (failure : Failure) : Type 0 where
+-- a failure came first, from its cause, and output and bench gained no more than they may
+pub record IsFirst (work : Work) (reads : Reads) (out : Output) (failure : Failure) : Type 0 where
   pub cause : IsCause work reads out failure
   pub kept : IsKept work reads.files out failure
 
@@ -67,19 +69,21 @@ Reports failure err status =
     ⊎ ((status ≡ 4) × HasFailed err × GotPrefix err (failure_text failure))
     ⊎ ((status ≡ 5) × GotPrefix err (failure_text failure))
 
--- the text was written, and nothing reported
-pub record HasDone (work : Work) (files : Option Files) (out err : Side) (status : ℕ) : Type 0 where
+-- all was given, and nothing reported
+pub record HasDone (work : Work) (files : Option Files) (out : Output) (err : Side) (status : ℕ)
+    : Type 0 where
   pub zero : status ≡ 0
   pub silent : GotNothing err
   pub written : HasWritten work files out
 
 -- a failure came first, and was reported
-pub record HasStopped (work : Work) (reads : Reads) (out err : Side) (status : ℕ) : Type 0 where
+pub record HasStopped (work : Work) (reads : Reads) (out : Output) (err : Side) (status : ℕ)
+    : Type 0 where
   pub failure : Failure
   pub first : IsFirst work reads out failure
   pub report : Reports failure err status
 
 -- how a run ends
-abbrev pub Ends : Work → Reads → (out err : Side) → (status : ℕ) → Type 0
+abbrev pub Ends : Work → Reads → (out : Output) → (err : Side) → (status : ℕ) → Type 0
 Ends work reads out err status =
     HasDone work reads.files out err status ⊎ HasStopped work reads out err status

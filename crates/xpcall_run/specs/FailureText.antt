@@ -4,7 +4,7 @@ use Rattle.xp_base.specs.Digits.{decimal_text}
 use Rattle.xp_base.specs.declared.run_faults.RunFault.{RunFault}
 use Rattle.xp_base.specs.declared.run_faults.RunFault.TheVariants as run
 use Rattle.xpcall_run.specs.declared.failures.FileFault.{FileFault}
-use Rattle.xpcall_run.specs.declared.failures.FileFault.TheVariants.{Missing, TooLong, Token, Syntax, Fault, Typelib, Form, Script}
+use Rattle.xpcall_run.specs.declared.failures.FileFault.TheVariants.{Missing, TooLong, Token, Syntax, Fault, Typelib, Script}
 use Rattle.xpcall_run.specs.declared.failures.Refusal.{Refusal}
 use Rattle.xpcall_run.specs.declared.failures.Refusal.TheVariants.{Usage, OfFile, OfFiles}
 use Rattle.xpcall_run.specs.declared.failures.Failure.{Failure}
@@ -19,7 +19,6 @@ fault_status (Token line) = 10
 fault_status (Syntax line) = 10
 fault_status (Fault code line) = 10
 fault_status (Typelib code place) = 11
-fault_status Form = 11
 fault_status (Script line) = 12
 
 abbrev pub refusal_status : Refusal → ℕ
@@ -63,7 +62,6 @@ fault_text name (Token line) = at_line name line (codes ": token")
 fault_text name (Syntax line) = at_line name line (codes ": syntax")
 fault_text name (Fault code line) = at_line name line (codes ": " ++ code_text code)
 fault_text name (Typelib code place) = typelib_text name code place
-fault_text name Form = name ++ codes ": form"
 fault_text name (Script line) = at_line name line (codes ": script")
 
 abbrev pub refusal_text : Refusal → List ℕ

@@ -1,14 +1,15 @@
--- What a run's status says, and what the sinks gained.
-use Rattle.std.specs.Prelude.{◌≡◌, ◌≢◌, ◌⊎◌, ℕ, List, [], ◌∷◌, Contains, Option, Some, None}
+-- What a run's status says, and what the sinks and the bench gained.
+use Rattle.std.specs.Prelude.{◌≡◌, ◌≢◌, ◌⊎◌, ℕ, [], ◌∷◌, Contains, Option, Some, None}
 use Rattle.xp_base.specs.Files.{Files}
 use Rattle.xpcall_run.specs.declared.commands.Command.{Command}
+use Rattle.xpcall_run.specs.declared.commands.Command.TheVariants.{Call}
 use Rattle.xpcall_run.specs.declared.failures.Failure.{Failure}
 use Rattle.xpcall_run.specs.declared.failures.Failure.TheVariants.{CannotWrite}
 use Rattle.xpcall_run.specs.declared.failures.Refusal.{Refusal}
 use Rattle.xpcall_run.specs.Commands.{work_of}
 use Rattle.xpcall_run.specs.Endings.{CanWrite, IsCause, IsKept}
 use Rattle.xpcall_run.specs.FailureText.{failure_text, refusal_status, status_of}
-use Rattle.xpcall_run.specs.Sides.{Reads, Side, Got, GotNothing, GotPrefix, HasFailed, HasUnread}
+use Rattle.xpcall_run.specs.Sides.{Given, HasAll, HasNone, HasSome, Output, Reads, Side, Got, GotPrefix, HasFailed, HasUnread}
 use Rattle.xpcall_run.specs.Works.{Outcome, Work}
 
 -- ---- premises
@@ -22,14 +23,19 @@ abbrev pub IsKnown : Option Command → Option Files → Type 0
 IsKnown None files = Unit {0}
 IsKnown (Some command) files = IsTold files
 
+-- the words are no command, or one that calls nothing
+abbrev pub CallsNothing : Option Command → Type 0
+CallsNothing (Some (Call conv typelib script)) = ⊥
+CallsNothing _ = Unit {0}
+
 -- what the command, or that it is none, comes to over these files
 abbrev pub ComesTo : Option Command → Option Files → Outcome → Type 0
 ComesTo command files outcome = (work_of command).comes files outcome
 
 -- neither the source nor a sink failed
-pub record NoneFailed (reads : Reads) (out err : Side) : Type 0 where
+pub record NoneFailed (reads : Reads) (out : Output) (err : Side) : Type 0 where
   pub read : ¬ HasUnread reads
-  pub written : ¬ HasFailed out
+  pub written : ¬ HasFailed out.sink
   pub reported : ¬ HasFailed err
 
 -- ---- statuses
@@ -46,44 +52,47 @@ pub record IsPlain (status : ℕ) : Type 0 where
 
 -- ---- what a run does
 
--- The run gives the text: on status 0 the output gained exactly this text, on 4 and 5 a prefix of
--- it, on 3 nothing; and no other status comes.
-pub record Gives (status : ℕ) (out : Side) (text : List ℕ) : Type 0 where
+-- The run gives this: on status 0 the output gained exactly the text, and the bench exactly the
+-- sights; on 4 and 5 first parts of them, on 3 nothing; and no other status comes.
+pub record Gives (status : ℕ) (out : Output) (given : Given) : Type 0 where
   pub statuses : (status ≡ 0) ⊎ (status ≡ 3) ⊎ (status ≡ 4) ⊎ (status ≡ 5)
-  pub whole : status ≡ 0 → Got out text
-  pub cut : (status ≡ 4) ⊎ (status ≡ 5) → GotPrefix out text
-  pub nothing : status ≡ 3 → GotNothing out
+  pub whole : status ≡ 0 → HasAll out given
+  pub cut : (status ≡ 4) ⊎ (status ≡ 5) → HasSome out given
+  pub nothing : status ≡ 3 → HasNone out
 
 -- The status is that of the refusal; or the source failed before, or the report of the refusal did,
--- or memory ran out. The output gained nothing.
-pub record Denies (status : ℕ) (reads : Reads) (out err : Side) (refusal : Refusal) : Type 0 where
+-- or memory ran out. The output gained nothing, and the bench is as it was.
+pub record Denies (status : ℕ) (reads : Reads) (out : Output) (err : Side) (refusal : Refusal)
+    : Type 0 where
   pub statuses : (status ≡ refusal_status refusal) ⊎ ((status ≡ 3) × HasUnread reads)
       ⊎ ((status ≡ 4) × HasFailed err) ⊎ (status ≡ 5)
-  pub nothing : GotNothing out
+  pub nothing : HasNone out
 
--- The words were no command: the source is not asked, and the output gained nothing.
-pub record IsUsage (status : ℕ) (out err : Side) : Type 0 where
+-- The words were no command. The output gained nothing, and the bench is as it was.
+pub record IsUsage (status : ℕ) (out : Output) (err : Side) : Type 0 where
   pub statuses : (status ≡ 2) ⊎ ((status ≡ 4) × HasFailed err) ⊎ (status ≡ 5)
-  pub nothing : GotNothing out
+  pub nothing : HasNone out
 
 -- A failure came first, from its cause, its text was written whole, and this is its status. The
--- output gained nothing.
-pub record IsReported (work : Work) (reads : Reads) (out err : Side) (status : ℕ) : Type 0 where
+-- output gained nothing, and the bench is as it was.
+pub record IsReported (work : Work) (reads : Reads) (out : Output) (err : Side) (status : ℕ)
+    : Type 0 where
   pub failure : Failure
   pub cause : IsCause work reads out failure
   pub named : status ≡ status_of failure
   pub told : Got err (failure_text failure)
-  pub nothing : GotNothing out
+  pub nothing : HasNone out
 
--- The report failed; or the output did, of a work that comes to a text, and that was reported.
-abbrev pub IsUnwritten : Work → Reads → (out err : Side) → Type 0
+-- The report failed; or the output did, of a work that comes to something to give, and that was
+-- reported.
+abbrev pub IsUnwritten : Work → Reads → (out : Output) → (err : Side) → Type 0
 IsUnwritten work reads out err =
     HasFailed err
-    ⊎ (HasFailed out × CanWrite work reads.files × Got err (failure_text CannotWrite))
+    ⊎ (HasFailed out.sink × CanWrite work reads.files × Got err (failure_text CannotWrite))
 
--- A failure came first, from its cause, the output gained no more than it may, and a prefix of the
--- failure's text was written.
-pub record IsCutShort (work : Work) (reads : Reads) (out err : Side) : Type 0 where
+-- A failure came first, from its cause, output and bench gained no more than they may, and a prefix
+-- of the failure's text was written.
+pub record IsCutShort (work : Work) (reads : Reads) (out : Output) (err : Side) : Type 0 where
   pub failure : Failure
   pub cause : IsCause work reads out failure
   pub kept : IsKept work reads.files out failure

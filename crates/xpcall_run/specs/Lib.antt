@@ -6,6 +6,7 @@ pub mod Compiled
 pub mod Endings
 pub mod FailureText
 pub mod Headline
+pub mod Joined
 pub mod Sides
 pub mod TypelibWork
 pub mod Works

@@ -1,13 +1,14 @@
 -- Works: what a command comes to, and which files it can ask for.
-use Rattle.std.specs.Prelude.{◌≡◌, ◌⊎◌, ℕ, ◌<◌, ◌≤◌, List, length, Option, Some, None}
+use Rattle.std.specs.Prelude.{◌≡◌, ◌⊎◌, ℕ, ◌<◌, ◌≤◌, List, [], length, Option, Some, None}
 use Rattle.xp_base.specs.Files.{Files, file_in}
 use Rattle.xpcall_run.specs.declared.failures.FileFault.TheVariants.{Missing, TooLong}
 use Rattle.xpcall_run.specs.declared.failures.Refusal.{Refusal}
 use Rattle.xpcall_run.specs.declared.failures.Refusal.TheVariants.{OfFile}
+use Rattle.xpcall_run.specs.Sides.{Given}
 
--- what a work comes to where nothing fails: a text to write, or a refusal
+-- what a work comes to where nothing fails: what it gives, or a refusal
 pub data Outcome : Type 0 where
-  Written : (text : List ℕ) → Outcome
+  Written : (given : Given) → Outcome
   Denied : (refusal : Refusal) → Outcome
 
 -- A work, over files that may be told. Over told files it comes to one outcome. Over files that are
@@ -22,12 +23,12 @@ Finds files name found = (told : Files) → files ≡ Some told → file_in told
 
 -- ---- works that ask for no file
 
-abbrev pub Settles : (List ℕ → Type 0) → (Refusal → Type 0) → Outcome → Type 0
-Settles writes refuses (Written text) = writes text
+abbrev pub Settles : (Given → Type 0) → (Refusal → Type 0) → Outcome → Type 0
+Settles writes refuses (Written given) = writes given
 Settles writes refuses (Denied refusal) = refuses refusal
 
--- It writes a text, or refuses.
-abbrev pub settles : (writes : List ℕ → Type 0) → (refuses : Refusal → Type 0) → Work
+-- It gives something, or refuses.
+abbrev pub settles : (writes : Given → Type 0) → (refuses : Refusal → Type 0) → Work
 settles writes refuses = record {
   comes = λ files outcome. Settles writes refuses outcome;
   asks = λ files name. ⊥;
@@ -35,7 +36,11 @@ settles writes refuses = record {
 
 -- It comes to nothing.
 abbrev pub nowhere : Work
-nowhere = settles (λ text. ⊥) (λ refusal. ⊥)
+nowhere = settles (λ given. ⊥) (λ refusal. ⊥)
+
+-- what writes a text calls nothing, and shows nothing
+abbrev pub Quietly : (List ℕ → Type 0) → Given → Type 0
+Quietly writes given = writes given.text × (given.sights ≡ [])
 
 -- ---- works that ask for a file first
 

@@ -1,20 +1,26 @@
 //! The command `call`.
 
-ghost use Rattle.std.specs.Prelude.{◌≡◌, ◌≤◌, IfErr, IfOk, OnOk, length};
-ghost use Rattle.script_run.specs.ThinScripts.{IsThinScript};
-ghost use Rattle.xpcall_run.specs.CallWork.{DenotesThin, HasBoth, RefusesAsThin, RefusesScript, call_work};
+ghost use Rattle.std.specs.Prelude.{◌≡◌, ◌≤◌, Err, IfErr, IfOk, OnErr, OnOk, length};
+ghost use Rattle.call_model.specs.declared.places.Conv as conventions;
+ghost use Rattle.call_scripts.specs.Lines.{IsScript};
+ghost use Rattle.lib_model.specs.Table.{table_of};
+ghost use Rattle.xp_base.specs.Causes.{Rose};
+ghost use Rattle.xp_base.specs.declared.run_faults.RunFault.TheVariants as RunFaults;
+ghost use Rattle.xpcall_run.specs.CallWork.{HasBoth, RefusesScript, call_work, calls_given};
 ghost use Rattle.xpcall_run.specs.Endings.{HasWritten, IsFirst, IsRefused, Stops};
-ghost use Rattle.xpcall_run.specs.Sides.{reads_of, side_of};
+ghost use Rattle.xpcall_run.specs.Sides.{HasAll, HasSome, output_of, reads_of, shown_of, side_of};
 
 use crate::failures::{Failure, FileFault};
 use crate::fetches::fetch;
 use crate::typelibs::read_typelib;
-use call_scripts::{Script, ScriptError};
+use call_model::Conv;
+use call_scripts::{Script, ScriptError, read_script};
 use descriptor_reader::Typelib;
-use script_run::{read_thin, run_thin};
+use machine_bench::Bench;
+use object_memory::Machine;
+use script_run::run_script;
 use std::alloc::Global;
-use sysv_x86_64::Walk;
-use xp_base::{Bytes, MAX_TEXT, MAX_TYPELIB, Sink, Source};
+use xp_base::{Bytes, MAX_TEXT, MAX_TYPELIB, RunFault, Sink, Source};
 
 /// The bytes of a typelib and of a script.
 #[derive(Drop)]
@@ -23,27 +29,55 @@ struct CallFiles {
     script: Bytes,
 }
 
-/// Makes the calls of the script `script` over the typelib `typelib`, under the System V ABI for
-/// x86-64, and writes what came of them to `out`; or says why it can't.
-pub fn call<S: Source, O: Sink>(
+/// Makes the calls of the script `script` over the typelib `typelib`, under a convention, writes
+/// what came of them to `out`, and shows them to `bench`; or says why it can't.
+pub fn call<S: Source, O: Sink, B: Bench>(
     alloc: Global,
+    conv: Conv,
     typelib: &Bytes,
     script: &Bytes,
     files: &mut S,
     out: &mut O,
+    bench: &mut B,
 ) -> Result<(), Failure>
-    ensures ok { OnOk result (HasWritten (call_work typelib.now script.now) (S.files files.old)
-        (side_of O.written O.faults out.old out.new)) }
-    ensures err { IfErr result (IsFirst (call_work typelib.now script.now)
+    ensures ok { OnOk result (HasWritten (call_work conv typelib.now script.now)
+        (S.files files.old)
+        (output_of (side_of O.written O.faults out.old out.new)
+        (shown_of B.seen bench.old bench.new))) }
+    ensures err { IfErr result (IsFirst (call_work conv typelib.now script.now)
         (reads_of S.files S.faults files.old files.new)
-        (side_of O.written O.faults out.old out.new)) }
+        (output_of (side_of O.written O.faults out.old out.new)
+        (shown_of B.seen bench.old bench.new))) }
     ensures same_files { S.files files.new ≡ S.files files.old }
 {
     let found = fetch_both(alloc, typelib, script, files)?;
-    let lib = thin_library(alloc, typelib, found.typelib.as_slice())?;
-    let lines = thin_script(alloc, script, found.script.as_slice())?;
-    run_thin::<Walk, O>(alloc, &lib, &lines, out)?;
+    let lib = read_typelib(alloc, typelib, found.typelib.as_slice())?;
+    let lines = read_lines(alloc, script, found.script.as_slice())?;
+    play(alloc, conv, &lib, &lines, out, bench)?;
     Ok(())
+}
+
+/// Runs a script on a machine of its own, under a convention.
+fn play<O: Sink, B: Bench>(
+    alloc: Global,
+    conv: Conv,
+    lib: &Typelib<'_>,
+    script: &Script,
+    out: &mut O,
+    bench: &mut B,
+) -> Result<(), RunFault>
+    ensures ok { OnOk result (HasAll
+        (output_of (side_of O.written O.faults out.old out.new)
+        (shown_of B.seen bench.old bench.new))
+        (calls_given (table_of lib.now) conv script.now.lines)) }
+    ensures err { OnErr result (HasSome
+        (output_of (side_of O.written O.faults out.old out.new)
+        (shown_of B.seen bench.old bench.new))
+        (calls_given (table_of lib.now) conv script.now.lines)) }
+    ensures cause { result ≡ Err RunFaults.Sink → Rose (O.faults out.old) (O.faults out.new) }
+{
+    let mut machine = Machine::new(alloc, conv)?;
+    run_script(alloc, &mut machine, lib, script, out, bench)
 }
 
 /// The bytes of the typelib, and then of the script, or why they are not had.
@@ -55,7 +89,8 @@ fn fetch_both<S: Source>(
 ) -> Result<CallFiles, Failure>
     ensures both { IfOk result (λ found. HasBoth (S.files files.old) typelib.now script.now
         found.typelib found.script) }
-    ensures err { IfErr result (Stops (call_work typelib.now script.now)
+    ensures err { (conv : conventions.Conv)
+        → IfErr result (Stops (call_work conv typelib.now script.now)
         (reads_of S.files S.faults files.old files.new)) }
     ensures same_files { S.files files.new ≡ S.files files.old }
 {
@@ -64,26 +99,13 @@ fn fetch_both<S: Source>(
     Ok(CallFiles { typelib, script })
 }
 
-/// The thin library that the bytes of the typelib `name` denote, or why there is none.
-fn thin_library<'a>(alloc: Global, name: &Bytes, bytes: &'a [u8]) -> Result<Typelib<'a>, Failure>
-    requires { length bytes.now ≤ MAX_TYPELIB }
-    ensures ok { IfOk result (λ lib. DenotesThin bytes.now lib) }
-    ensures err { IfErr result (IsRefused (RefusesAsThin name.now bytes.now)) }
-{
-    let lib = read_typelib(alloc, name, bytes)?;
-    if !lib.thin() {
-        return Err(Failure::of_file(alloc, name, FileFault::Form));
-    }
-    Ok(lib)
-}
-
-/// The thin script that the bytes of the script `name` spell, or why there is none.
-fn thin_script(alloc: Global, name: &Bytes, bytes: &[u8]) -> Result<Script, Failure>
+/// The script that the bytes of the script `name` spell, or why there is none.
+fn read_lines(alloc: Global, name: &Bytes, bytes: &[u8]) -> Result<Script, Failure>
     requires { length bytes.now ≤ MAX_TEXT }
-    ensures ok { IfOk result (λ script. IsThinScript bytes.now script) }
+    ensures ok { IfOk result (λ script. IsScript bytes.now script) }
     ensures err { IfErr result (IsRefused (RefusesScript name.now bytes.now)) }
 {
-    match read_thin(alloc, bytes) {
+    match read_script(alloc, bytes) {
         Ok(script) => Ok(script),
         Err(ScriptError::Fault { line }) => {
             Err(Failure::of_file(alloc, name, FileFault::Script { line }))

@@ -6,6 +6,8 @@ ghost use Rattle.std.specs.String.{string_bytes};
 ghost use Rattle.xpcall_run.specs.Commands as specs;
 ghost use Rattle.xpcall_run.specs.Commands.{IsFit, command_of};
 
+use call_model::Conv;
+use call_scripts::convention;
 use std::alloc::Global;
 use xp_base::{Bytes, List, Memory};
 
@@ -22,9 +24,13 @@ pub enum Command {
     Compile(List<Bytes>),
     /// List the typelib of this name.
     Dump(Bytes),
-    /// Make the calls of the script of this name over the typelib of this name, under the System V
-    /// ABI for x86-64.
-    Call { typelib: Bytes, script: Bytes },
+    /// Make the calls of the script of this name over the typelib of this name, under a
+    /// convention.
+    Call {
+        conv: Conv,
+        typelib: Bytes,
+        script: Bytes,
+    },
 }
 
 /// The command that `words` are, the program's name not among them; None where they are none.
@@ -74,18 +80,22 @@ fn dump_command(alloc: Global, words: &[String]) -> Result<Option<Command>, Memo
 fn call_command(alloc: Global, words: &[String]) -> Result<Option<Command>, Memory>
     ensures { IfOk result (λ command. command ≡ specs.call_of (map string_bytes words.now)) }
 {
-    let [convention, typelib, script] = words else {
+    let [word, typelib, script] = words else {
         return Ok(None);
     };
-    if convention.as_str() != "sysv64" || !is_file_name(typelib.as_str()) {
+    let Some(conv) = convention(word.as_bytes()) else {
         return Ok(None);
-    }
-    if !is_file_name(script.as_str()) {
+    };
+    if !is_file_name(typelib.as_str()) || !is_file_name(script.as_str()) {
         return Ok(None);
     }
     let typelib = Bytes::copy(alloc, typelib.as_bytes())?;
     let script = Bytes::copy(alloc, script.as_bytes())?;
-    Ok(Some(Command::Call { typelib, script }))
+    Ok(Some(Command::Call {
+        conv,
+        typelib,
+        script,
+    }))
 }
 
 /// Whether words can be the names of the files that are compiled together.

@@ -15,7 +15,7 @@ ghost use Rattle.xpcall_run.specs.CompileWork as specs;
 ghost use Rattle.xpcall_run.specs.CompileWork.{IsFaultless, RefusesCounts, RefusesFaults, RefusesMeaning, RefusesSlots, RefusesWidth, StandsFor, WritesLibrary, compile_work};
 ghost use Rattle.xpcall_run.specs.Compiled.{HasCompiled, IsTypelibOf};
 ghost use Rattle.xpcall_run.specs.Endings.{HasWritten, IsFirst, IsRefused, Stops};
-ghost use Rattle.xpcall_run.specs.Sides.{reads_of, side_of};
+ghost use Rattle.xpcall_run.specs.Sides.{IsUnmoved, Shown, output_of, reads_of, side_of};
 ghost use Rattle.xpcall_run.specs.Works.{nowhere};
 ghost use Rattle.xpcall_run.specs.declared.failures.Refusal.TheVariants.{OfFile};
 
@@ -33,7 +33,7 @@ use vtable_layout::{LayoutError, Slots, layout};
 use xp_base::{Bytes, List, Sink, Source, put_all};
 
 /// Writes the typelib of the include closure of the IDL files `roots` to `out`, or says why it
-/// can't.
+/// can't. It calls nothing, so that a bench sees nothing.
 pub fn compile<S: Source, O: Sink>(
     alloc: Global,
     roots: &List<Bytes>,
@@ -41,11 +41,13 @@ pub fn compile<S: Source, O: Sink>(
     out: &mut O,
 ) -> Result<(), Failure>
     requires { length roots.now ≤ 65535 }
-    ensures ok { OnOk result (HasWritten (compile_work roots.now) (S.files files.old)
-        (side_of O.written O.faults out.old out.new)) }
-    ensures err { IfErr result (IsFirst (compile_work roots.now)
+    ensures ok { (bench : Shown) → IsUnmoved bench
+        → OnOk result (HasWritten (compile_work roots.now) (S.files files.old)
+        (output_of (side_of O.written O.faults out.old out.new) bench)) }
+    ensures err { (bench : Shown) → IsUnmoved bench
+        → IfErr result (IsFirst (compile_work roots.now)
         (reads_of S.files S.faults files.old files.new)
-        (side_of O.written O.faults out.old out.new)) }
+        (output_of (side_of O.written O.faults out.old out.new) bench)) }
     ensures compiled { OnOk result (HasCompiled (S.files files.old) roots.now
         (side_of O.written O.faults out.old out.new)) }
     ensures same_files { S.files files.new ≡ S.files files.old }

@@ -32,9 +32,7 @@ pub enum FileFault {
     Fault { code: u8, line: u32 },
     /// The bytes are no typelib. Their first fault has this code, and this place in the file.
     Typelib { code: u8, at: u64 },
-    /// The bytes are a typelib whose calls can't be made yet.
-    Form,
-    /// This is the first line that is no line of a script, or one that can't be run yet.
+    /// This is the first line that is no line of a script.
     Script { line: u32 },
 }
 
@@ -98,7 +96,7 @@ impl FileFault {
             FileFault::Missing => 6,
             FileFault::TooLong => 7,
             FileFault::Token { .. } | FileFault::Syntax { .. } | FileFault::Fault { .. } => 10,
-            FileFault::Typelib { .. } | FileFault::Form => 11,
+            FileFault::Typelib { .. } => 11,
             FileFault::Script { .. } => 12,
         }
     }

@@ -8,6 +8,7 @@ mod compiles;
 mod dumps;
 mod failures;
 mod fetches;
+pub mod laws;
 mod places;
 mod reports;
 mod running;

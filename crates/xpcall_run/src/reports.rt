@@ -91,7 +91,6 @@ fn put_fault<E: Sink>(
         FileFault::Syntax { line } => put_numbered(alloc, name, line, b": syntax\n", err),
         FileFault::Fault { code, line } => put_coded(alloc, name, line, code, err),
         FileFault::Typelib { code, at } => put_typelib_fault(alloc, name, code, at, err),
-        FileFault::Form => put_framed(alloc, b"", name, b": form\n", err),
         FileFault::Script { line } => put_numbered(alloc, name, line, b": script\n", err),
     }
 }

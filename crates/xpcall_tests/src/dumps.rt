@@ -1,7 +1,7 @@
 //! The command `dump`.
 
 use crate::compiles::{FIRST_OF_TWO, SECOND_OF_TWO};
-use crate::files::TYPELIB;
+use crate::files::{SUPPORTS, TYPELIB};
 use crate::outcomes::{Run, check, outcome};
 use std::test::Fail;
 
@@ -84,24 +84,6 @@ fn a_typelib_that_is_cut_has_a_fault(rt: HostRuntime) -> Result<(), Fail> {
     };
     check(&rt, rt.alloc(), &run)
 }
-
-const SUPPORTS: &[u8] = b"\
-typedef unsigned long nsrefcnt;
-native size_t(size_t);
-[ref, nsid] native nsIIDRef(nsIID);
-[ptr] native nsQIResult(void);
-[ref, astring] native AString(ignored);
-[scriptable, uuid(00000000-0000-0000-c000-000000000046)]
-interface nsISupports {
-  void QueryInterface(in nsIIDRef uuid,
-                      [iid_is(uuid), retval] out nsQIResult result);
-  [noscript, notxpcom] nsrefcnt AddRef();
-  [noscript, notxpcom] nsrefcnt Release();
-};
-%{C++
-#include \"nsISupportsUtils.h\"
-%}
-";
 
 const INHERITING: &[u8] = b"#include \"nsISupports.idl\"
 [scriptable, uuid(00000001-0000-0000-c000-000000000046)]

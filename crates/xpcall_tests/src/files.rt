@@ -33,3 +33,22 @@ result 80004001
 pub const COMPILE: &[&str] = &["compile", "a.idl"];
 
 pub const CALL: &[&str] = &["call", "sysv64", "a.xpt", "s.txt"];
+
+/// The interface that others follow.
+pub const SUPPORTS: &[u8] = b"\
+typedef unsigned long nsrefcnt;
+native size_t(size_t);
+[ref, nsid] native nsIIDRef(nsIID);
+[ptr] native nsQIResult(void);
+[ref, astring] native AString(ignored);
+[scriptable, uuid(00000000-0000-0000-c000-000000000046)]
+interface nsISupports {
+  void QueryInterface(in nsIIDRef uuid,
+                      [iid_is(uuid), retval] out nsQIResult result);
+  [noscript, notxpcom] nsrefcnt AddRef();
+  [noscript, notxpcom] nsrefcnt Release();
+};
+%{C++
+#include \"nsISupportsUtils.h\"
+%}
+";

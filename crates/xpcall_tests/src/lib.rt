@@ -3,6 +3,8 @@
 #![tactic(auto)]
 
 #[cfg(test)]
+mod benches;
+#[cfg(test)]
 mod calls;
 #[cfg(test)]
 mod commands;
@@ -11,8 +13,12 @@ mod compiles;
 #[cfg(test)]
 mod dumps;
 #[cfg(test)]
+mod examples;
+#[cfg(test)]
 mod faults;
 #[cfg(test)]
 mod files;
 #[cfg(test)]
 mod outcomes;
+#[cfg(test)]
+mod transcripts;

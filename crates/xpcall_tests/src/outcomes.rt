@@ -1,5 +1,6 @@
 //! A run, and what came of it.
 
+use machine_bench::{MemBench, NoBench};
 use std::alloc::{AllocError, Global};
 use std::process::Abort;
 use std::test::Fail;
@@ -38,6 +39,19 @@ fn source_of(alloc: Global, files: &[(&str, &[u8])]) -> Result<CalmSource, Memor
     Ok(source)
 }
 
+/// The status of a run of these words over a source, the output and the error output.
+pub fn outcome_of(
+    alloc: Global,
+    words: &[String],
+    source: &mut CalmSource,
+) -> (u8, CalmSink, CalmSink) {
+    let mut out = CalmSink::new(alloc);
+    let mut err = CalmSink::new(alloc);
+    let mut bench = NoBench::new();
+    let status = run(alloc, words, source, &mut out, &mut err, &mut bench);
+    (status, out, err)
+}
+
 /// The status of a run of these words over these files, the output and the error output.
 pub fn outcome(
     alloc: Global,
@@ -46,10 +60,29 @@ pub fn outcome(
 ) -> Result<(u8, CalmSink, CalmSink), Fail> {
     let words = owned(alloc, words)?;
     let mut source = source_of(alloc, files)?;
+    Ok(outcome_of(alloc, words.as_slice(), &mut source))
+}
+
+/// The status of a run of these words over these files, and a bench that saw its calls.
+pub fn seen(
+    alloc: Global,
+    words: &[&str],
+    files: &[(&str, &[u8])],
+) -> Result<(u8, MemBench), Fail> {
+    let words = owned(alloc, words)?;
+    let mut source = source_of(alloc, files)?;
     let mut out = CalmSink::new(alloc);
     let mut err = CalmSink::new(alloc);
-    let status = run(alloc, words.as_slice(), &mut source, &mut out, &mut err);
-    Ok((status, out, err))
+    let mut bench = MemBench::new(alloc);
+    let status = run(
+        alloc,
+        words.as_slice(),
+        &mut source,
+        &mut out,
+        &mut err,
+        &mut bench,
+    );
+    Ok((status, bench))
 }
 
 /// What came of the run of this name is what was to come of it.
@@ -103,7 +136,15 @@ pub fn check_failing(
     let mut source = failing_source(alloc, run_of.files, fails[0])?;
     let mut out = failing_sink(alloc, fails[1])?;
     let mut err = failing_sink(alloc, fails[2])?;
-    let status = run(alloc, words.as_slice(), &mut source, &mut out, &mut err);
+    let mut bench = NoBench::new();
+    let status = run(
+        alloc,
+        words.as_slice(),
+        &mut source,
+        &mut out,
+        &mut err,
+        &mut bench,
+    );
     let found = (status, out.written(), err.written());
     same(
         rt,

@@ -1,6 +1,7 @@
 use Rattle.std.proofs.lemmas.Result.{IfErr-weaker, err_from_is_err_and}
 use Rattle.xpcall_run.specs.CompileWork.{RefusesFaults, WritesLibrary, library_work}
 use Rattle.xpcall_run.specs.Sides.{reads_of}
+use Rattle.xpcall_run.specs.Works.{Quietly}
 use Rattle.xpcall_run.proofs.ClosureLaws.{closed_stops, first_closes}
 use Rattle.xpcall_run.proofs.CompiledLaws.{typelib_made}
 use Rattle.xpcall_run.proofs.compiles.typelib_of.Goals as goal
@@ -20,5 +21,5 @@ pub returns-clause-err : goal.returns-clause-err
 returns-clause-err g c =
     let reads = reads_of g.S.Source.files g.S.Source.faults c.args.files.now c.close.new.files in
     IfErr-weaker c.compile_files.result _ _
-    (λ f why. closed_stops reads c.args.roots.now WritesLibrary RefusesFaults _ f c.in_ok-closed.ensures.ok why)
+    (λ f why. closed_stops reads c.args.roots.now (λ files. Quietly (WritesLibrary files)) RefusesFaults _ f c.in_ok-closed.ensures.ok why)
     c.compile_files.ensures.err

@@ -1,0 +1,74 @@
+//! The frames that lines give.
+
+use call_model::Conv;
+use call_scripts::{Act, read_script};
+use entered_frames::{enter_frame, misformed};
+use object_memory::Machine;
+use std::alloc::Global;
+use std::process::Abort;
+use std::test::Fail;
+use transcript_text::{Refusal, frame_lines, refused_line};
+use xp_base::{Bytes, MAX_TEXT};
+
+/// A line for an object at 107d0 (hexadecimal) under a convention; and the frame that it gives, or
+/// the refusal of the first item that the frame does not take.
+const ROWS: [(Conv, &str, &str); 8] = [
+    (
+        Conv::SysV64,
+        "enter o a.b rsi=2 xmm7=ffffffffffffffff stack=0a0b rsi=3",
+        "gpr 107d0 3 0 0 0 0\nfpr 0 0 0 0 0 0 0 ffffffffffffffff\nstack 0a0b\n",
+    ),
+    (Conv::SysV64, "enter o a.b rsi=2 rdi=1", "refused form 1\n"),
+    (Conv::SysV64, "enter o a.b x1=1", "refused form 0\n"),
+    (
+        Conv::I386,
+        "enter o a.b stack=0102",
+        "gpr -\nfpr -\nstack d00701000102\n",
+    ),
+    (
+        Conv::Aapcs64,
+        "enter o a.b v7=7 x7=8",
+        "gpr 107d0 0 0 0 0 0 0 8\nfpr 0 0 0 0 0 0 0 7\nstack -\n",
+    ),
+    (
+        Conv::Ms64,
+        "enter o a.b r9=9 xmm0=1",
+        "gpr 107d0 0 0 9\nfpr 1 0 0 0\nstack -\n",
+    ),
+    (Conv::Ms64, "enter o a.b r9=9 xmm4=1", "refused form 1\n"),
+    (
+        Conv::Aapcs32,
+        "enter o a.b stack=ff",
+        "gpr -\nfpr -\nstack d0070100ff\n",
+    ),
+];
+
+/// What comes of a line.
+fn entered(alloc: Global, conv: Conv, act: &Act) -> Result<Bytes, Fail> {
+    let Act::Enter { items, .. } = act else {
+        return Ok(Bytes::new(alloc));
+    };
+    if let Some(item) = misformed(conv, items.as_slice()) {
+        return Ok(refused_line(alloc, Refusal::Form(u32::try_from(item)?))?);
+    }
+    let mut machine = Machine::new(alloc, conv)?;
+    enter_frame(machine.frame_mut(), conv, 0x107d0, items.as_slice());
+    Ok(frame_lines(alloc, conv, machine.frame())?)
+}
+
+/// What comes of a text of one line.
+fn entered_by(rt: &impl Abort, alloc: Global, conv: Conv, text: &str) -> Result<Bytes, Fail> {
+    assert!(rt; text.len() <= MAX_TEXT);
+    let script = read_script(alloc, text.as_bytes())?;
+    let line = script.lines.get(0).expect(rt, "a line");
+    entered(alloc, conv, &line.act)
+}
+
+#[test]
+fn frames_are_those_of_their_lines(rt: HostRuntime) -> Result<(), Fail> {
+    for (conv, text, wanted) in &ROWS {
+        let frame = entered_by(&rt, rt.alloc(), *conv, text)?;
+        assert!(rt; frame.as_slice() == wanted.as_bytes(), "at {text}");
+    }
+    Ok(())
+}
