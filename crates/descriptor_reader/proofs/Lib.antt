@@ -3,5 +3,4 @@ pub mod LoopLaws
 pub mod MethodLaws
 pub mod PrototypeLaws
 pub mod SearchLaws
-pub mod ThinLaws
 pub mod ViewLaws

@@ -18,7 +18,6 @@ mod proto_args;
 mod shapes;
 mod slots;
 mod statuses;
-mod thin;
 mod typelib;
 
 pub use arg_iter::ArgIter;

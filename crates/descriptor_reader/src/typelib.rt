@@ -3,7 +3,6 @@ ghost use Rattle.call_model.specs.Tables.{descends_from, iface_named, iface_with
 ghost use Rattle.lib_model.specs.declared.contents.Library.{Library};
 ghost use Rattle.lib_model.specs.Denotes.{Denotes};
 ghost use Rattle.lib_model.specs.Table.{methods_of, table_of};
-ghost use Rattle.lib_model.specs.Thin.{IsThin};
 ghost use Rattle.lib_model.specs.Valid.{IsValid};
 ghost use Rattle.typelib_faults.specs.Causes.{IsFault};
 ghost use Rattle.typelib_faults.specs.Laws.{FirstFault};
@@ -13,7 +12,6 @@ use crate::finds::{find, find_iid};
 use crate::iface_views::IfaceView;
 use crate::members::{member, method_in_slot};
 use crate::method_views::MethodView;
-use crate::thin::thin_library;
 use call_model::MemberKind;
 use std::marker::Model;
 use typelib_check::chains::reaches;
@@ -136,14 +134,6 @@ impl<'a> Typelib<'a> {
             }),
             None => None,
         }
-    }
-
-    /// Whether the library is thin: one resolved interface with no namespace, parent, constants or
-    /// flags, whose methods have no flags, take numbers of 32 bits and give nothing.
-    pub fn thin(&self) -> bool
-        ensures { IsTrue result ↔ IsThin self.now }
-    {
-        thin_library(&self.checked)
     }
 
     /// Whether the interface `k` is `from` or descends from it; both are counted from 1.

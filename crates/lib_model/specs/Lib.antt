@@ -1,5 +1,4 @@
 pub mod Denotes
 pub mod Emit
 pub mod Table
-pub mod Thin
 pub mod Valid

@@ -4,7 +4,7 @@ use Rattle.object_memory.specs.Cells.{cell_numbers}
 use Rattle.object_memory.specs.Memory.{MachineView}
 use Rattle.machine_bench.specs.declared.sight.Sight.{Sight}
 
--- what a machine shows: its frame, the numbers in its pushed cells, and the bytes of vtable and heap
+-- what a machine shows: frame, numbers in its pushed cells, and the bytes of vtable and heap
 abbrev pub sight_of : MachineView → Sight
 sight_of m = record {
   gprs = m.frame.gprs;

@@ -7,7 +7,7 @@ use Rattle.lib_model.specs.declared.contents.Constant.{Constant}
 use Rattle.lib_model.specs.declared.contents.Iface.{Iface}
 use Rattle.lib_model.specs.Valid.{AreKnownBits, IsChain, IsConstant, IsIface, IsName, IsValid, first_of_chain, iface_bits, iface_items}
 use Rattle.lib_model.proofs.ValidFacts.{name_from_bytes}
-use Rattle.lib_model.proofs.ThinFacts.{all_alone}
+use Rattle.lib_model.proofs.OneAlone.{alone_valid}
 
 abbrev constants_iface : List ℕ → List ℕ → List Constant → Iface
 constants_iface name iid constants = record {
@@ -25,38 +25,26 @@ constants_iface name iid constants = record {
 no_bits : AreKnownBits iface_bits 0
 no_bits = record { byte = omega arith; known_alone = refl }
 
-alone_chain : (name iid : List ℕ) (constants : List Constant) (number : ℕ) → 0 < number → number ≤ 1
-    → IsChain (constants_iface name iid constants ∷ []) number
-unfolding first_of_chain
-alone_chain name iid constants number above below =
-    let one : number ≡ 1 = omega arith
-    in let P : ℕ → Type 0 = IsChain (constants_iface name iid constants ∷ [])
-    in subst P (sym one) (record { short = omega arith; few_slots = omega arith })
-
 pub constants_valid : (name iid : List ℕ) (constants : List Constant) → IsName name
     → length iid ≡ 16 → All IsConstant constants → length constants ≤ 65535
     → IsValid (record { ifaces = constants_iface name iid constants ∷ [] })
 constants_valid name iid constants is_name iid_len are few =
-    let iface : Iface = constants_iface name iid constants
-    in record {
-      few = omega arith;
-      ifaces =
-          all_alone (IsIface (iface ∷ [])) iface
-          (record {
-            name = is_name;
-            namespace = tt;
-            iid = iid_len;
-            body = record {
-              parent = inl refl;
-              methods = λ k d h. absurd (omega (arith, h));
-              few_constants = few;
-              constants = are;
-              flags = no_bits;
-            };
-          });
-      chains = alone_chain name iid constants;
-      few_items = omega (arith, sum_by-cons iface_items iface []);
-    }
+    alone_valid (constants_iface name iid constants)
+    (record {
+      name = is_name;
+      namespace = tt;
+      iid = iid_len;
+      body = record {
+        parent = inl refl;
+        methods = λ k d h. absurd (omega (arith, h));
+        few_constants = few;
+        constants = are;
+        flags = no_bits;
+      };
+    })
+    refl
+    (omega arith)
+    (omega (arith, few))
 
 -- a constant of a lawful name whose value is 10
 pub ten_named : (name copied : List ℕ) → copied ≡ name → IsName name

@@ -185,32 +185,3 @@ fn a_large_file_has_its_fault(rt: HostRuntime) -> Result<(), Fail> {
     }
     Ok(())
 }
-
-/// Whether the bytes are a thin typelib; None where they are none.
-fn is_thin(bytes: &[u8]) -> Option<bool>
-    requires { length bytes.now ≤ MAX_TYPELIB }
-{
-    match Typelib::check(bytes) {
-        Ok(lib) => Some(lib.thin()),
-        Err(_) => None,
-    }
-}
-
-/// The byte of the file of one method that is changed, what it then is, and whether the file is
-/// thin.
-const THIN: [(usize, u8, Option<bool>); 6] = [
-    (0, 88, Some(true)),
-    (0, 89, None),
-    (75, 8, Some(false)),
-    (81, 0xc0, Some(false)),
-    (82, 3, Some(false)),
-    (87, 0x80, Some(false)),
-];
-
-#[test]
-fn a_thin_file_has_no_flags(rt: HostRuntime) {
-    for (place, byte, wanted) in &THIN {
-        let file = changed(&rt, *place, *byte);
-        assert!(rt; is_thin(&file) == *wanted, "byte {place} is {byte}");
-    }
-}

@@ -1,4 +1,4 @@
-use Rattle.lib_model.proofs.Examples.{thin_is_thin}
+use Rattle.lib_model.proofs.Examples.{one_method_is_valid}
 use Rattle.typelib_tests.proofs.examples.one_method.Goals as goal
 
 pub returns : goal.returns
@@ -14,4 +14,4 @@ returns c =
       c.in_ok-copy-2.ensures,
       c.new.ensures,
     )
-    thin_is_thin.valid
+    one_method_is_valid
