@@ -51,26 +51,15 @@ fn lowered(alloc: Global, scope: &Scope) -> Result<Library, Fail>
 }
 
 /// The library of what a text declares.
-pub(crate) fn library_of(rt: &impl Abort, alloc: Global, text: &[u8]) -> Result<Library, Fail> {
+pub(crate) fn library_of(rt: &impl Abort, alloc: Global, text: &[u8]) -> Result<Library, Fail>
+    ensures { IfOk result IsValid }
+{
     let scope = scope_of(rt, alloc, text)?;
     lowered(alloc, &scope)
 }
 
-/// The typelib of files: what each stage gives is what the next one asks for.
-fn compiled(alloc: Global, files: &List<ClosedFile>) -> Result<Bytes, Fail>
-    requires files { length files.now < 2 ^ 32 }
-    requires items { items_of files.now < 2 ^ 32 }
-    requires lawful { AreLawfulFiles files.now }
-{
-    let scope = resolve(alloc, files)?;
-    let slots = layout(alloc, &scope)?;
-    let library = lower(alloc, &scope, &slots)?;
-    Ok(write(alloc, &library)?)
-}
-
 /// The typelib of a text.
 pub(crate) fn typelib_of(rt: &impl Abort, alloc: Global, text: &[u8]) -> Result<Bytes, Fail> {
-    assert!(rt; text.len() <= MAX_TEXT);
-    let files = closed(alloc, text)?;
-    compiled(alloc, &files)
+    let library = library_of(rt, alloc, text)?;
+    Ok(write(alloc, &library)?)
 }

@@ -6,6 +6,10 @@ mod declared;
 #[cfg(test)]
 mod libraries;
 #[cfg(test)]
+mod limits;
+#[cfg(test)]
+mod long_texts;
+#[cfg(test)]
 mod prototypes;
 #[cfg(test)]
 mod slots;

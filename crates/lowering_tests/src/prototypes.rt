@@ -1,7 +1,7 @@
 //! The table that is read off the library of a text.
 
 use crate::declared::library_of;
-use call_model::{CType, MemberKind, Note, Pass, ProtoArg, Status};
+use call_model::{CType, MemberKind, Note, Pass, ProtoArg, Status, TableSlot};
 use lib_model::table_of;
 use std::test::Fail;
 
@@ -126,90 +126,91 @@ const TEXT: &[u8] = b"
     };";
 
 /// A slot: its name, what it is, and its status and prototype.
-type Row = (&'static [u8], MemberKind, Status, &'static [ProtoArg]);
+type Row = (&'static str, MemberKind, Status, &'static [ProtoArg]);
 
 /// The slots of `TEXT`.
 const SLOTS: [Row; 16] = [
     (
-        b"add",
+        "add",
         MemberKind::Plain,
         Status::Callable,
         &[LONG, LONG, GIVEN_LONG],
     ),
     (
-        b"pad",
+        "pad",
         MemberKind::Plain,
         Status::Callable,
         &[LONG, OPTIONAL_LONG, ARGC, GIVEN_LONG],
     ),
     (
-        b"log",
+        "log",
         MemberKind::Plain,
         Status::Callable,
         &[OPTIONAL_LONG, ARGC],
     ),
     (
-        b"run",
+        "run",
         MemberKind::Plain,
         Status::Callable,
         &[OCTET, CONTEXT, GIVEN_LONG],
     ),
     (
-        b"say",
+        "say",
         MemberKind::Plain,
         Status::Callable,
         &[PLAIN, CONTEXT, ARGC],
     ),
-    (b"text", MemberKind::Get, Status::Callable, &[AT]),
-    (b"text", MemberKind::Set, Status::Callable, &[AT]),
+    ("text", MemberKind::Get, Status::Callable, &[AT]),
+    ("text", MemberKind::Set, Status::Callable, &[AT]),
     (
-        b"rate",
+        "rate",
         MemberKind::Get,
         Status::Callable,
         &[CONTEXT, GIVEN_DOUBLE],
     ),
     (
-        b"rate",
+        "rate",
         MemberKind::Set,
         Status::Callable,
         &[CONTEXT, DOUBLE],
     ),
     (
-        b"part",
+        "part",
         MemberKind::Plain,
         Status::Callable,
         &[SHORTS, UNSIGNED, GIVEN_UNSIGNED],
     ),
     (
-        b"count",
+        "count",
         MemberKind::Plain,
         Status::Callable,
         &[LONGS, ARGC, GIVEN_UNSIGNED],
     ),
-    (b"query", MemberKind::Plain, Status::Callable, &[AT, OBJECT]),
-    (
-        b"turn",
-        MemberKind::Plain,
-        Status::Callable,
-        &[CHANGED_LONG],
-    ),
-    (b"hide", MemberKind::Plain, Status::Hidden, &[]),
-    (b"raw", MemberKind::Plain, Status::NotXpcom, &[]),
-    (b"any", MemberKind::Plain, Status::Opaque, &[]),
+    ("query", MemberKind::Plain, Status::Callable, &[AT, OBJECT]),
+    ("turn", MemberKind::Plain, Status::Callable, &[CHANGED_LONG]),
+    ("hide", MemberKind::Plain, Status::Hidden, &[]),
+    ("raw", MemberKind::Plain, Status::NotXpcom, &[]),
+    ("any", MemberKind::Plain, Status::Opaque, &[]),
 ];
+
+/// Whether a slot is that of its row.
+fn is_row(slot: &TableSlot, row: &Row) -> bool {
+    let (name, kind, status, proto) = row;
+    slot.name.as_slice() == name.as_bytes()
+        && slot.kind == *kind
+        && slot.status == *status
+        && slot.proto.as_slice() == *proto
+}
 
 #[test]
 fn members_have_these_prototypes(rt: HostRuntime) -> Result<(), Fail> {
     let library = library_of(&rt, rt.alloc(), TEXT)?;
     let table = table_of(rt.alloc(), &library)?;
-    assert_eq!(rt; table.ifaces.as_slice().len(), 1);
+    assert!(rt; table.ifaces.len() == 1);
     let slots = table.ifaces.as_slice()[0].slots.as_slice();
-    assert_eq!(rt; slots.len(), SLOTS.len());
-    for (slot, (name, kind, status, proto)) in slots.iter().zip(SLOTS) {
-        assert_eq!(rt; slot.name.as_slice(), name);
-        assert_eq!(rt; slot.kind, kind, "of {name:?}");
-        assert_eq!(rt; slot.status, status, "of {name:?}");
-        assert_eq!(rt; slot.proto.as_slice(), proto, "of {name:?}");
+    assert!(rt; slots.len() == SLOTS.len());
+    for (slot, row) in slots.iter().zip(&SLOTS) {
+        assert!(rt; is_row(slot, row), "of {:?} {}", row.1, row.0);
     }
     Ok(())
 }
