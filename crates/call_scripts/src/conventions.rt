@@ -7,6 +7,19 @@ ghost use Rattle.call_scripts.specs.Spellings.{conv_word};
 
 use call_model::Conv;
 
+/// The word that names a convention.
+pub fn convention_word(conv: Conv) -> &'static str
+    ensures { result ≡ conv_word conv }
+{
+    match conv {
+        Conv::SysV64 => "sysv64",
+        Conv::I386 => "i386",
+        Conv::Aapcs64 => "aapcs64",
+        Conv::Ms64 => "ms64",
+        Conv::Aapcs32 => "aapcs32",
+    }
+}
+
 /// The convention that a word names, in scripts and on the command line: `sysv64`, `i386`,
 /// `aapcs64`, `ms64` and `aapcs32` name one each, and other words none.
 #[tactic(auto, unfolding(crate::specs::Reading::conv_of))]

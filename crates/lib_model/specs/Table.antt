@@ -176,8 +176,8 @@ proto_of m =
     first_args m ++ (map (arg_of m) (take (written_count m.params) m.params)
     ++ (middle_args m ++ map (arg_of m) (drop (written_count m.params) m.params)))
 
--- at the position of a parameter stands its argument, and no such position lies past the prototype's
--- end
+-- at the position of a parameter stands its argument, and no such position lies past the end of
+-- the prototype
 pub record HasPositions (m : Method) : Type 0 where
   pub argument : (k : ℕ)
       → slice_get (proto_of m) (position_in m k) ≡ option_map (arg_of m) (slice_get m.params k)

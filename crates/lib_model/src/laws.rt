@@ -14,8 +14,9 @@ pub fn each_parameter_has_its_position()
     ensures { (m : Method) → HasPositions m }
 {}
 
-/// In the table of a valid library each interface has at most 250 in its lineage, itself counted; so
-/// its slots and its ancestors are those of its parent and its own.
+/// In the table of a valid library each interface has at most 250 in its lineage, itself counted;
+/// so its slots and its ancestors are those of its parent and its own.
 pub fn each_lineage_is_short()
-    ensures { (lib : Library) → IsValid lib → (number : ℕ) → HasShortLineage (table_of lib) number }
+    ensures { (lib : Library) → IsValid lib
+        → (number : ℕ) → HasShortLineage (table_of lib) number }
 {}

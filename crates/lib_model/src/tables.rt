@@ -60,9 +60,9 @@ fn table_iface(alloc: Global, iface: &Iface) -> Result<TableIface, Memory>
     })
 }
 
-/// The table of a library, as the flags and tags of the XPCOM typelib format have it: its interfaces
-/// in order, each with its own slots. A method that may not be called has its slot too, with the
-/// reason and no prototype. The one error is want of memory.
+/// The table of a library, as the flags and tags of the XPCOM typelib format have it: its
+/// interfaces in order, each with its own slots. A method that may not be called has its slot too,
+/// with the reason and no prototype. The one error is want of memory.
 #[tactic(auto, unfolding(crate::specs::Table::table_of))]
 pub fn table_of(alloc: Global, lib: &Library) -> Result<Table, Memory>
     ensures { IfOk result (λ table. table ≡ table_of lib.now) }

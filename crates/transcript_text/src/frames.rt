@@ -9,7 +9,7 @@ use crate::lines::words_line;
 use call_model::{Conv, fprs_of, gprs_of};
 use object_memory::Frame;
 use std::alloc::Global;
-use xp_base::{Bytes, List, Memory, hex_fixed, hex_text};
+use xp_base::{Bytes, List, Memory, hex_text};
 
 /// The general registers that take arguments, the float registers that do, and the stack's bytes,
 /// each in a line in hexadecimal: `-` stands for none. The one error is want of memory.
@@ -86,9 +86,6 @@ fn stack_words(alloc: Global, bytes: &[u8]) -> Result<List<Bytes>, Memory>
 pub fn hex_of_bytes(alloc: Global, bytes: &[u8]) -> Result<Bytes, Memory>
     ensures { IfOk result (λ word. word ≡ flat_map (hex_digits_fixed 2) bytes.now) }
 {
-    let mut word = Bytes::new(alloc);
-    for byte in bytes {
-        word.append(hex_fixed(alloc, u64::from(*byte), 2)?.as_slice())?;
-    }
-    Ok(word)
+    let word = hex::encode(alloc, bytes)?;
+    Bytes::copy(alloc, word.as_bytes())
 }

@@ -1,3 +1,4 @@
+pub mod ByteDigits
 pub mod Gains
 pub mod Lengths
 pub mod LittleEndian
