@@ -9,7 +9,7 @@ use call_model::Conv;
 
 /// The word that names a convention.
 pub fn convention_word(conv: Conv) -> &'static str
-    ensures { result ≡ conv_word conv }
+    ensures { result.now ≡ conv_word conv }
 {
     match conv {
         Conv::SysV64 => "sysv64",
