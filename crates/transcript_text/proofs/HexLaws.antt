@@ -1,5 +1,5 @@
 -- The kit's hexadecimal text of bytes is two digits for each.
-use Rattle.std.proofs.Common.{◌≡◌, ℕ, ◌/◌, ◌%◌, ◌<◌, ◌==◌, zero, suc, true, false, List, [], ◌∷◌, get_or, slice_index, refl, sym, ◌∙◌, arith}
+use Rattle.std.proofs.Common.{◌≡◌, ℕ, ◌/◌, ◌%◌, ◌<◌, ◌==◌, suc, true, false, List, [], ◌∷◌, get_or, slice_index, refl, sym, arith}
 use Rattle.std.proofs.lemmas.Bool.{agree_below_at, eqb-true}
 use Rattle.std.specs.Fmt.{digit_glyph}
 use Rattle.std.specs.List.{flat_map}

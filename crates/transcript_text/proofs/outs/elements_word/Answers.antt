@@ -1,4 +1,4 @@
-use Rattle.std.proofs.Common.{◌≡◌, ◌∷◌, ◌++◌, [], take, codes, ap, ◌∙◌}
+use Rattle.std.proofs.Common.{◌∷◌, ◌++◌, [], take, codes, ap, ◌∙◌}
 use Rattle.std.specs.List.{join_with_byte}
 use Rattle.transcript_text.proofs.Joined.{first-joined, next-joined}
 use Rattle.transcript_text.proofs.outs.elements_word.Goals as goal
