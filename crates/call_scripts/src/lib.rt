@@ -12,6 +12,7 @@ mod spellings;
 mod texts;
 
 pub use conventions::{convention, convention_word};
+pub use error::ScriptError;
 pub use read::{one_reading, read_front, read_script};
 pub use script::{
     Act, ArgWord, EnterItem, Fill, Front, Line, MemberRef, MemberWord, ReplyItem, Script, Target,
