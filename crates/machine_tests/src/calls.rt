@@ -1,298 +1,26 @@
-//! Calls from cells: what the cells of arguments hold, and the frame and the entry of a call.
+//! Calls from cells: what the cells of arguments hold, and the entry and the frame of a call.
 
-ghost use Rattle.std.specs.Prelude.{◌*◌, length, IsSome, IsTrue};
-ghost use Rattle.invoke_by_index.specs.Methods.{prototype};
-ghost use Rattle.invoke_by_index.specs.Ranges.{FitsWord};
-ghost use Rattle.object_memory.specs.Memory.{InCells, entry_at};
-
-use call_model::{Conv, word_of};
+use crate::begun::begin;
+use crate::texts::{add_cells, add_frame, check};
+use crate::typelibs::{ADD, GET_X, MIX, PICK, SAMPLE, SAY, SET_X};
+use call_model::Conv;
 use descriptor_reader::{MethodView, Typelib};
-use invoke_by_index::{Arg, ArgFault, fill_cells, invoke};
-use object_memory::{Frame, Machine, VTABLE_AT, Width};
+use invoke_by_index::Arg;
+use object_memory::{Machine, VTABLE_AT, Width};
+use std::alloc::{AllocError, Global};
 use std::process::Abort;
 use std::test::Fail;
 
-/// nsISupports with its three methods, and nsIT after it, in whose slots from 3 on stand
-///
-/// - `long add(in long a, in long b)`,
-/// - `void mix(in double a, in double b, in long n, in double c, .. in double i)`,
-/// - `[optional_argc] long pick(in long a, [optional] in long b, [optional] in long c)`,
-/// - both halves of `[implicit_jscontext] attribute long x`, and
-/// - `void say(in AString s, inout short n)`.
-pub(crate) const SAMPLE: [u8; 293] = [
-    0x58, 0x50, 0x43, 0x4f, 0x4d, 0x0a, 0x54, 0x79, 0x70, 0x65, 0x4c, 0x69, 0x62, 0x0d, 0x0a, 0x1a,
-    0x01, 0x02, 0x00, 0x02, 0x00, 0x00, 0x01, 0x25, 0x00, 0x00, 0x00, 0x25, 0x00, 0x00, 0x00, 0x5c,
-    0x80, 0x00, 0x00, 0x00, 0x00, 0x00, 0x00, 0x00, 0x00, 0x00, 0x00, 0x00, 0xc0, 0x00, 0x00, 0x00,
-    0x00, 0x00, 0x00, 0x46, 0x00, 0x00, 0x00, 0x01, 0x00, 0x00, 0x00, 0x00, 0x00, 0x00, 0x00, 0x2b,
-    0x00, 0x00, 0x00, 0x00, 0x00, 0x00, 0x00, 0x00, 0x00, 0x00, 0x00, 0x00, 0x00, 0x00, 0x00, 0x01,
-    0x00, 0x00, 0x00, 0x4f, 0x00, 0x00, 0x00, 0x00, 0x00, 0x00, 0x00, 0x69, 0x6e, 0x73, 0x49, 0x53,
-    0x75, 0x70, 0x70, 0x6f, 0x72, 0x74, 0x73, 0x00, 0x51, 0x75, 0x65, 0x72, 0x79, 0x49, 0x6e, 0x74,
-    0x65, 0x72, 0x66, 0x61, 0x63, 0x65, 0x00, 0x41, 0x64, 0x64, 0x52, 0x65, 0x66, 0x00, 0x52, 0x65,
-    0x6c, 0x65, 0x61, 0x73, 0x65, 0x00, 0x00, 0x00, 0x00, 0x03, 0x00, 0x00, 0x00, 0x00, 0x0d, 0x02,
-    0x80, 0x8e, 0x60, 0x93, 0x00, 0x00, 0x06, 0x28, 0x00, 0x00, 0x00, 0x1c, 0x00, 0x00, 0x06, 0x28,
-    0x00, 0x00, 0x00, 0x23, 0x00, 0x00, 0x06, 0x00, 0x00, 0x80, 0x6e, 0x73, 0x49, 0x54, 0x00, 0x61,
-    0x64, 0x64, 0x00, 0x6d, 0x69, 0x78, 0x00, 0x70, 0x69, 0x63, 0x6b, 0x00, 0x78, 0x00, 0x78, 0x00,
-    0x73, 0x61, 0x79, 0x00, 0x00, 0x01, 0x00, 0x06, 0x00, 0x00, 0x00, 0x00, 0x54, 0x03, 0x80, 0x02,
-    0x80, 0x02, 0x60, 0x02, 0x00, 0x06, 0x00, 0x00, 0x00, 0x00, 0x58, 0x0a, 0x80, 0x09, 0x80, 0x09,
-    0x80, 0x02, 0x80, 0x09, 0x80, 0x09, 0x80, 0x09, 0x80, 0x09, 0x80, 0x09, 0x80, 0x09, 0x80, 0x09,
-    0x00, 0x06, 0x04, 0x00, 0x00, 0x00, 0x5c, 0x04, 0x80, 0x02, 0x84, 0x02, 0x84, 0x02, 0x60, 0x02,
-    0x00, 0x06, 0x82, 0x00, 0x00, 0x00, 0x61, 0x01, 0x60, 0x02, 0x00, 0x06, 0x42, 0x00, 0x00, 0x00,
-    0x63, 0x01, 0x80, 0x02, 0x00, 0x06, 0x00, 0x00, 0x00, 0x00, 0x65, 0x02, 0x80, 0x99, 0xc0, 0x01,
-    0x00, 0x06, 0x00, 0x00, 0x80,
-];
-
-pub(crate) const ADD: u16 = 3;
-
-const MIX: u16 = 4;
-
-const PICK: u16 = 5;
-
-const GET_X: u16 = 6;
-
-const SET_X: u16 = 7;
-
-pub(crate) const SAY: u16 = 8;
-
-/// The method in a slot of nsIT.
-pub(crate) fn method_in<'a>(rt: &impl Abort, lib: &Typelib<'a>, slot: u16) -> MethodView<'a> {
-    lib.method_at(2, slot).expect(rt, "no method")
-}
-
-/// Pushes as many cells as a call of a method has.
-pub(crate) fn push_for(rt: &impl Abort, machine: &mut Machine, method: &MethodView<'_>) -> u64
-    ensures { InCells machine.new result (8 * length (prototype method.now)) }
-{
-    let positions = method.positions();
-    assert!(rt; positions <= machine.cells_free());
-    machine.push_cells(positions)
-}
-
-/// Whether a word of the convention holds a number.
-pub(crate) fn fits_word(conv: Conv, n: u64) -> bool
-    ensures { IsTrue result → FitsWord conv n }
-{
-    word_of(conv) == 8 || n <= 0xffff_ffff
-}
-
-/// Whether the cells from `base` on hold these numbers.
-pub(crate) fn has_cells(machine: &Machine, base: u64, cells: &[u64]) -> bool {
-    let mut at = base;
-    for cell in cells {
-        if machine.load(at, Width::W8) != Some(*cell) {
-            return false;
-        }
-        at = at.saturating_add(8);
-    }
-    true
-}
-
-/// Arguments of a call of a method of nsIT on a new machine, with what comes of them, and what
-/// the cells hold then.
-#[derive(Drop)]
-struct Fill<'a> {
-    name: &'a str,
+/// A call of a method of nsIT, through an object that stands alone in the heap; what stands in the
+/// slot of the vtable before it, if not what a new machine has there; and what comes of it: the
+/// entry, or what does not fit of the arguments, then the cells, and where they fit the frame.
+struct Call {
+    name: &'static str,
     conv: Conv,
     slot: u16,
-    args: &'a [Arg],
-    result: Result<(), ArgFault>,
-    cells: &'a [u64],
-}
-
-pub(crate) const MINUS_ONE: u64 = 0xffff_ffff_ffff_ffff;
-
-/// The address that is passed where a method takes the context.
-const CONTEXT: u64 = 0x107d0;
-
-const FILLS: [Fill<'static>; 19] = [
-    Fill {
-        name: "two numbers and a cell",
-        conv: Conv::SysV64,
-        slot: ADD,
-        args: &[Arg::Value(2), Arg::Value(-1), Arg::Cell],
-        result: Ok(()),
-        cells: &[2, MINUS_ONE, 0],
-    },
-    Fill {
-        name: "one number",
-        conv: Conv::SysV64,
-        slot: ADD,
-        args: &[Arg::Value(2)],
-        result: Err(ArgFault::Count),
-        cells: &[0, 0, 0],
-    },
-    Fill {
-        name: "a number more",
-        conv: Conv::SysV64,
-        slot: ADD,
-        args: &[Arg::Value(2), Arg::Value(-1), Arg::Cell, Arg::Value(0)],
-        result: Err(ArgFault::Count),
-        cells: &[0, 0, 0],
-    },
-    Fill {
-        name: "a cell for a number",
-        conv: Conv::SysV64,
-        slot: ADD,
-        args: &[Arg::Value(2), Arg::Cell, Arg::Cell],
-        result: Err(ArgFault::Form(1)),
-        cells: &[0, 0, 0],
-    },
-    Fill {
-        name: "a number for a cell",
-        conv: Conv::SysV64,
-        slot: ADD,
-        args: &[Arg::Value(2), Arg::Value(-1), Arg::Value(0)],
-        result: Err(ArgFault::Form(2)),
-        cells: &[0, 0, 0],
-    },
-    Fill {
-        name: "a number that is too great for a long",
-        conv: Conv::SysV64,
-        slot: ADD,
-        args: &[Arg::Value(2), Arg::Value(0x8000_0000), Arg::Cell],
-        result: Err(ArgFault::Range(1)),
-        cells: &[0, 0, 0],
-    },
-    Fill {
-        name: "the first of two such numbers",
-        conv: Conv::SysV64,
-        slot: ADD,
-        args: &[Arg::Value(-0x8000_0001), Arg::Value(0x8000_0000), Arg::Cell],
-        result: Err(ArgFault::Range(0)),
-        cells: &[0, 0, 0],
-    },
-    Fill {
-        name: "a form counts before a range",
-        conv: Conv::SysV64,
-        slot: ADD,
-        args: &[Arg::Value(0x8000_0000), Arg::Value(-1), Arg::Value(0)],
-        result: Err(ArgFault::Form(2)),
-        cells: &[0, 0, 0],
-    },
-    Fill {
-        name: "one of two optional numbers",
-        conv: Conv::SysV64,
-        slot: PICK,
-        args: &[Arg::Value(5), Arg::Value(6), Arg::Absent, Arg::Cell],
-        result: Ok(()),
-        cells: &[5, 6, 0, 1, 0],
-    },
-    Fill {
-        name: "both optional numbers",
-        conv: Conv::SysV64,
-        slot: PICK,
-        args: &[Arg::Value(5), Arg::Value(6), Arg::Value(0), Arg::Cell],
-        result: Ok(()),
-        cells: &[5, 6, 0, 2, 0],
-    },
-    Fill {
-        name: "an optional number behind one that is left out",
-        conv: Conv::SysV64,
-        slot: PICK,
-        args: &[Arg::Value(5), Arg::Absent, Arg::Value(6), Arg::Cell],
-        result: Err(ArgFault::Form(2)),
-        cells: &[0, 0, 0, 0, 0],
-    },
-    Fill {
-        name: "a number that is not optional is left out",
-        conv: Conv::SysV64,
-        slot: PICK,
-        args: &[Arg::Absent, Arg::Absent, Arg::Absent, Arg::Cell],
-        result: Err(ArgFault::Form(0)),
-        cells: &[0, 0, 0, 0, 0],
-    },
-    Fill {
-        name: "the context before the cell of a value",
-        conv: Conv::SysV64,
-        slot: GET_X,
-        args: &[Arg::Cell],
-        result: Ok(()),
-        cells: &[CONTEXT, 0],
-    },
-    Fill {
-        name: "the context before a value",
-        conv: Conv::SysV64,
-        slot: SET_X,
-        args: &[Arg::Value(7)],
-        result: Ok(()),
-        cells: &[CONTEXT, 7],
-    },
-    Fill {
-        name: "a string's address and a cell with a number",
-        conv: Conv::SysV64,
-        slot: SAY,
-        args: &[Arg::Value(0x107d0), Arg::ValueCell(-2)],
-        result: Ok(()),
-        cells: &[0x107d0, 0xffff_ffff_ffff_fffe],
-    },
-    Fill {
-        name: "a number that is too great for the short in a cell",
-        conv: Conv::SysV64,
-        slot: SAY,
-        args: &[Arg::Value(0x107d0), Arg::ValueCell(0x8000)],
-        result: Err(ArgFault::Range(1)),
-        cells: &[0, 0],
-    },
-    Fill {
-        name: "an address above 64 bits",
-        conv: Conv::SysV64,
-        slot: SAY,
-        args: &[Arg::Value(0x1_0000_0000_0000_0000), Arg::ValueCell(0)],
-        result: Err(ArgFault::Range(0)),
-        cells: &[0, 0],
-    },
-    Fill {
-        name: "an address above 32 bits",
-        conv: Conv::I386,
-        slot: SAY,
-        args: &[Arg::Value(0x1_0000_0000), Arg::ValueCell(0)],
-        result: Err(ArgFault::Range(0)),
-        cells: &[0, 0],
-    },
-    Fill {
-        name: "the greatest address of 32 bits",
-        conv: Conv::I386,
-        slot: SAY,
-        args: &[Arg::Value(0xffff_ffff), Arg::ValueCell(0)],
-        result: Ok(()),
-        cells: &[0xffff_ffff, 0],
-    },
-];
-
-#[test]
-fn cells_hold_the_arguments_that_fit(rt: HostRuntime) -> Result<(), Fail> {
-    let lib = Typelib::check(&SAMPLE)?;
-    for fill in &FILLS {
-        let mut machine = Machine::new(rt.alloc(), fill.conv)?;
-        let method = method_in(&rt, &lib, fill.slot);
-        let base = push_for(&rt, &mut machine, &method);
-        assert!(rt; fits_word(machine.conv(), CONTEXT), "{}", fill.name);
-        let result = fill_cells(&mut machine, base, &method, CONTEXT, fill.args);
-        assert_eq!(rt; result, fill.result, "{}", fill.name);
-        assert_eq!(rt;
-            method.positions() as usize,
-            fill.cells.len(),
-            "{}",
-            fill.name
-        );
-        assert!(rt; has_cells(&machine, base, fill.cells), "{}", fill.name);
-    }
-    Ok(())
-}
-
-/// A call of a method of nsIT, through an object that stands alone in the heap: what stands in the
-/// slot of the vtable before it, if not what a new machine has there; and then the entry, the
-/// registers and the stack.
-#[derive(Drop)]
-struct Call<'a> {
-    name: &'a str,
-    conv: Conv,
-    slot: u16,
-    args: &'a [Arg],
+    args: &'static [Arg],
     stored: Option<u64>,
-    entry: u64,
-    gprs: [u64; 8],
-    fprs: [u64; 8],
-    stack: &'a [u8],
+    came: &'static str,
 }
 
 const TWO_NUMBERS: [Arg; 3] = [Arg::Value(2), Arg::Value(-1), Arg::Cell];
@@ -311,38 +39,15 @@ const NINE_DOUBLES: [Arg; 10] = [
     Arg::Value(9),
 ];
 
-/// A home area of 32 bytes, and then the last seven doubles.
-const MS64_STACK: [u8; 88] = [
-    0, 0, 0, 0, 0, 0, 0, 0, 0, 0, 0, 0, 0, 0, 0, 0, 0, 0, 0, 0, 0, 0, 0, 0, 0, 0, 0, 0, 0, 0, 0, 0,
-    3, 0, 0, 0, 0, 0, 0, 0, 4, 0, 0, 0, 0, 0, 0, 0, 5, 0, 0, 0, 0, 0, 0, 0, 6, 0, 0, 0, 0, 0, 0, 0,
-    7, 0, 0, 0, 0, 0, 0, 0, 8, 0, 0, 0, 0, 0, 0, 0, 9, 0, 0, 0, 0, 0, 0, 0,
-];
-
-/// The object's address, two doubles, the long in 4 bytes, and seven doubles.
-const I386_STACK: [u8; 80] = [
-    0xf0, 3, 1, 0, 1, 0, 0, 0, 0, 0, 0, 0, 2, 0, 0, 0, 0, 0, 0, 0, 7, 0, 0, 0, 3, 0, 0, 0, 0, 0, 0,
-    0, 4, 0, 0, 0, 0, 0, 0, 0, 5, 0, 0, 0, 0, 0, 0, 0, 6, 0, 0, 0, 0, 0, 0, 0, 7, 0, 0, 0, 0, 0, 0,
-    0, 8, 0, 0, 0, 0, 0, 0, 0, 9, 0, 0, 0, 0, 0, 0, 0,
-];
-
-/// The same, with each double at a multiple of 8.
-const AAPCS32_STACK: [u8; 88] = [
-    0xf0, 3, 1, 0, 0, 0, 0, 0, 1, 0, 0, 0, 0, 0, 0, 0, 2, 0, 0, 0, 0, 0, 0, 0, 7, 0, 0, 0, 0, 0, 0,
-    0, 3, 0, 0, 0, 0, 0, 0, 0, 4, 0, 0, 0, 0, 0, 0, 0, 5, 0, 0, 0, 0, 0, 0, 0, 6, 0, 0, 0, 0, 0, 0,
-    0, 7, 0, 0, 0, 0, 0, 0, 0, 8, 0, 0, 0, 0, 0, 0, 0, 9, 0, 0, 0, 0, 0, 0, 0,
-];
-
-const CALLS: [Call<'static>; 7] = [
+const CALLS: [Call; 25] = [
     Call {
-        name: "the entry of a new machine",
+        name: "two numbers and a cell",
         conv: Conv::SysV64,
         slot: ADD,
         args: &TWO_NUMBERS,
         stored: None,
-        entry: 0x1030,
-        gprs: [0x107d0, 2, MINUS_ONE, 0x4000_0010, 0, 0, 0, 0],
-        fprs: [0; 8],
-        stack: &[],
+        came: "entry 1030; cells 2 ffffffffffffffff 0; gpr 107d0 2 ffffffffffffffff 40000010 0 0 0 0; \
+            fpr 0 0 0 0 0 0 0 0; stack",
     },
     Call {
         name: "an entry that was stored",
@@ -350,10 +55,158 @@ const CALLS: [Call<'static>; 7] = [
         slot: ADD,
         args: &TWO_NUMBERS,
         stored: Some(0x9999),
-        entry: 0x9999,
-        gprs: [0x107d0, 2, MINUS_ONE, 0x4000_0010, 0, 0, 0, 0],
-        fprs: [0; 8],
-        stack: &[],
+        came: "entry 9999; cells 2 ffffffffffffffff 0; gpr 107d0 2 ffffffffffffffff 40000010 0 0 0 0; \
+            fpr 0 0 0 0 0 0 0 0; stack",
+    },
+    Call {
+        name: "one number",
+        conv: Conv::SysV64,
+        slot: ADD,
+        args: &[Arg::Value(2)],
+        stored: None,
+        came: "Count; cells 0 0 0",
+    },
+    Call {
+        name: "a number more",
+        conv: Conv::SysV64,
+        slot: ADD,
+        args: &[Arg::Value(2), Arg::Value(-1), Arg::Cell, Arg::Value(0)],
+        stored: None,
+        came: "Count; cells 0 0 0",
+    },
+    Call {
+        name: "a cell for a number",
+        conv: Conv::SysV64,
+        slot: ADD,
+        args: &[Arg::Value(2), Arg::Cell, Arg::Cell],
+        stored: None,
+        came: "Form(1); cells 0 0 0",
+    },
+    Call {
+        name: "a number for a cell",
+        conv: Conv::SysV64,
+        slot: ADD,
+        args: &[Arg::Value(2), Arg::Value(-1), Arg::Value(0)],
+        stored: None,
+        came: "Form(2); cells 0 0 0",
+    },
+    Call {
+        name: "a number that is too great for a long",
+        conv: Conv::SysV64,
+        slot: ADD,
+        args: &[Arg::Value(2), Arg::Value(0x8000_0000), Arg::Cell],
+        stored: None,
+        came: "Range(1); cells 0 0 0",
+    },
+    Call {
+        name: "the first of two such numbers",
+        conv: Conv::SysV64,
+        slot: ADD,
+        args: &[Arg::Value(-0x8000_0001), Arg::Value(0x8000_0000), Arg::Cell],
+        stored: None,
+        came: "Range(0); cells 0 0 0",
+    },
+    Call {
+        name: "a form counts before a range",
+        conv: Conv::SysV64,
+        slot: ADD,
+        args: &[Arg::Value(0x8000_0000), Arg::Value(-1), Arg::Value(0)],
+        stored: None,
+        came: "Form(2); cells 0 0 0",
+    },
+    Call {
+        name: "one of two optional numbers",
+        conv: Conv::SysV64,
+        slot: PICK,
+        args: &[Arg::Value(5), Arg::Value(6), Arg::Absent, Arg::Cell],
+        stored: None,
+        came: "entry 1050; cells 5 6 0 1 0; gpr 107d0 5 6 0 1 40000020 0 0; \
+            fpr 0 0 0 0 0 0 0 0; stack",
+    },
+    Call {
+        name: "both optional numbers",
+        conv: Conv::SysV64,
+        slot: PICK,
+        args: &[Arg::Value(5), Arg::Value(6), Arg::Value(0), Arg::Cell],
+        stored: None,
+        came: "entry 1050; cells 5 6 0 2 0; gpr 107d0 5 6 0 2 40000020 0 0; \
+            fpr 0 0 0 0 0 0 0 0; stack",
+    },
+    Call {
+        name: "an optional number behind one that is left out",
+        conv: Conv::SysV64,
+        slot: PICK,
+        args: &[Arg::Value(5), Arg::Absent, Arg::Value(6), Arg::Cell],
+        stored: None,
+        came: "Form(2); cells 0 0 0 0 0",
+    },
+    Call {
+        name: "a number that is not optional is left out",
+        conv: Conv::SysV64,
+        slot: PICK,
+        args: &[Arg::Absent, Arg::Absent, Arg::Absent, Arg::Cell],
+        stored: None,
+        came: "Form(0); cells 0 0 0 0 0",
+    },
+    Call {
+        name: "the context before the cell of a value",
+        conv: Conv::SysV64,
+        slot: GET_X,
+        args: &[Arg::Cell],
+        stored: None,
+        came: "entry 1060; cells 107d0 0; gpr 107d0 107d0 40000008 0 0 0 0 0; \
+            fpr 0 0 0 0 0 0 0 0; stack",
+    },
+    Call {
+        name: "the context before a value",
+        conv: Conv::SysV64,
+        slot: SET_X,
+        args: &[Arg::Value(7)],
+        stored: None,
+        came: "entry 1070; cells 107d0 7; gpr 107d0 107d0 7 0 0 0 0 0; \
+            fpr 0 0 0 0 0 0 0 0; stack",
+    },
+    Call {
+        name: "a string's address and a cell with a number",
+        conv: Conv::SysV64,
+        slot: SAY,
+        args: &[Arg::Value(0x107d0), Arg::ValueCell(-2)],
+        stored: None,
+        came: "entry 1080; cells 107d0 fffffffffffffffe; gpr 107d0 107d0 40000008 0 0 0 0 0; \
+            fpr 0 0 0 0 0 0 0 0; stack",
+    },
+    Call {
+        name: "a number that is too great for the short in a cell",
+        conv: Conv::SysV64,
+        slot: SAY,
+        args: &[Arg::Value(0x107d0), Arg::ValueCell(0x8000)],
+        stored: None,
+        came: "Range(1); cells 0 0",
+    },
+    Call {
+        name: "an address above 64 bits",
+        conv: Conv::SysV64,
+        slot: SAY,
+        args: &[Arg::Value(0x1_0000_0000_0000_0000), Arg::ValueCell(0)],
+        stored: None,
+        came: "Range(0); cells 0 0",
+    },
+    Call {
+        name: "an address above 32 bits",
+        conv: Conv::I386,
+        slot: SAY,
+        args: &[Arg::Value(0x1_0000_0000), Arg::ValueCell(0)],
+        stored: None,
+        came: "Range(0); cells 0 0",
+    },
+    Call {
+        name: "the greatest address of 32 bits",
+        conv: Conv::I386,
+        slot: SAY,
+        args: &[Arg::Value(0xffff_ffff), Arg::ValueCell(0)],
+        stored: None,
+        came: "entry 1080; cells ffffffff 0; gpr 0 0 0 0 0 0 0 0; \
+            fpr 0 0 0 0 0 0 0 0; stack f0 3 1 0 ff ff ff ff 8 0 0 40",
     },
     Call {
         name: "doubles under sysv64",
@@ -361,10 +214,8 @@ const CALLS: [Call<'static>; 7] = [
         slot: MIX,
         args: &NINE_DOUBLES,
         stored: None,
-        entry: 0x1040,
-        gprs: [0x107d0, 7, 0, 0, 0, 0, 0, 0],
-        fprs: [1, 2, 3, 4, 5, 6, 7, 8],
-        stack: &[9, 0, 0, 0, 0, 0, 0, 0],
+        came: "entry 1040; cells 1 2 7 3 4 5 6 7 8 9; gpr 107d0 7 0 0 0 0 0 0; \
+            fpr 1 2 3 4 5 6 7 8; stack 9 0 0 0 0 0 0 0",
     },
     Call {
         name: "doubles under aapcs64",
@@ -372,106 +223,93 @@ const CALLS: [Call<'static>; 7] = [
         slot: MIX,
         args: &NINE_DOUBLES,
         stored: None,
-        entry: 0x1040,
-        gprs: [0x107d0, 7, 0, 0, 0, 0, 0, 0],
-        fprs: [1, 2, 3, 4, 5, 6, 7, 8],
-        stack: &[9, 0, 0, 0, 0, 0, 0, 0],
+        came: "entry 1040; cells 1 2 7 3 4 5 6 7 8 9; gpr 107d0 7 0 0 0 0 0 0; \
+            fpr 1 2 3 4 5 6 7 8; stack 9 0 0 0 0 0 0 0",
     },
     Call {
-        name: "doubles under ms64",
+        name: "doubles under ms64, behind a home area of 32 bytes",
         conv: Conv::Ms64,
         slot: MIX,
         args: &NINE_DOUBLES,
         stored: None,
-        entry: 0x1040,
-        gprs: [0x107d0, 0, 0, 7, 0, 0, 0, 0],
-        fprs: [0, 1, 2, 0, 0, 0, 0, 0],
-        stack: &MS64_STACK,
+        came: "entry 1040; cells 1 2 7 3 4 5 6 7 8 9; gpr 107d0 0 0 7 0 0 0 0; \
+            fpr 0 1 2 0 0 0 0 0; stack \
+            0 0 0 0 0 0 0 0 0 0 0 0 0 0 0 0 0 0 0 0 0 0 0 0 0 0 0 0 0 0 0 0 3 0 0 0 0 0 0 0 \
+            4 0 0 0 0 0 0 0 5 0 0 0 0 0 0 0 6 0 0 0 0 0 0 0 7 0 0 0 0 0 0 0 8 0 0 0 0 0 0 0 \
+            9 0 0 0 0 0 0 0",
     },
     Call {
-        name: "doubles under i386",
+        name: "doubles under i386, each behind the last",
         conv: Conv::I386,
         slot: MIX,
         args: &NINE_DOUBLES,
         stored: None,
-        entry: 0x1040,
-        gprs: [0; 8],
-        fprs: [0; 8],
-        stack: &I386_STACK,
+        came: "entry 1040; cells 1 2 7 3 4 5 6 7 8 9; gpr 0 0 0 0 0 0 0 0; \
+            fpr 0 0 0 0 0 0 0 0; stack \
+            f0 3 1 0 1 0 0 0 0 0 0 0 2 0 0 0 0 0 0 0 7 0 0 0 3 0 0 0 0 0 0 0 4 0 0 0 0 0 0 0 \
+            5 0 0 0 0 0 0 0 6 0 0 0 0 0 0 0 7 0 0 0 0 0 0 0 8 0 0 0 0 0 0 0 9 0 0 0 0 0 0 0",
     },
     Call {
-        name: "doubles under aapcs32",
+        name: "doubles under aapcs32, each at a multiple of 8",
         conv: Conv::Aapcs32,
         slot: MIX,
         args: &NINE_DOUBLES,
         stored: None,
-        entry: 0x1040,
-        gprs: [0; 8],
-        fprs: [0; 8],
-        stack: &AAPCS32_STACK,
+        came: "entry 1040; cells 1 2 7 3 4 5 6 7 8 9; gpr 0 0 0 0 0 0 0 0; \
+            fpr 0 0 0 0 0 0 0 0; stack \
+            f0 3 1 0 0 0 0 0 1 0 0 0 0 0 0 0 2 0 0 0 0 0 0 0 7 0 0 0 0 0 0 0 3 0 0 0 0 0 0 0 \
+            4 0 0 0 0 0 0 0 5 0 0 0 0 0 0 0 6 0 0 0 0 0 0 0 7 0 0 0 0 0 0 0 8 0 0 0 0 0 0 0 \
+            9 0 0 0 0 0 0 0",
     },
 ];
 
-/// The entry of a call under a convention.
-fn invoke_under(
+/// Stores an entry in a slot of the vtable.
+fn store_entry(rt: &impl Abort, machine: &mut Machine, slot: u16, entry: u64) {
+    let at = VTABLE_AT + u64::from(machine.word()) * u64::from(slot);
+    assert!(rt; machine.store(at, Width::W8, entry));
+}
+
+/// What comes of a call of a method of the object at `this`.
+fn outcome(
+    rt: &impl Abort,
+    alloc: Global,
     machine: &mut Machine,
-    conv: Conv,
     this: u64,
-    base: u64,
     method: &MethodView<'_>,
-) -> u64
-    requires cells { InCells machine.old base (8 * length (prototype method.now)) }
-    requires entry { IsSome (entry_at machine.old this method.now.slot) }
-{
-    match conv {
-        Conv::SysV64 => invoke::<sysv_x86_64::Walk>(machine, this, base, method),
-        Conv::I386 => invoke::<cdecl_i386::Walk>(machine, this, base, method),
-        Conv::Aapcs64 => invoke::<aapcs64::Walk>(machine, this, base, method),
-        Conv::Ms64 => invoke::<ms_x64::Walk>(machine, this, base, method),
-        Conv::Aapcs32 => invoke::<aapcs32::Walk>(machine, this, base, method),
+    args: &[Arg],
+) -> Result<String, AllocError> {
+    match begin(rt, machine, this, method, args) {
+        Ok(entry) => {
+            let mut text = format!(in alloc; "entry {entry:x}")?;
+            add_cells(rt, &mut text, machine)?;
+            add_frame(&mut text, machine.frame())?;
+            Ok(text)
+        }
+        Err(fault) => {
+            let mut text = format!(in alloc; "{fault:?}")?;
+            add_cells(rt, &mut text, machine)?;
+            Ok(text)
+        }
     }
 }
 
-/// The general registers and the float registers.
-pub(crate) fn registers_of(frame: &Frame) -> ([u64; 8], [u64; 8]) {
-    let (mut gprs, mut fprs) = ([0; 8], [0; 8]);
-    for i in 0..8 {
-        gprs[i as usize] = frame.gpr(i);
-        fprs[i as usize] = frame.fpr(i);
+/// The same of a call of the table.
+fn outcome_of(rt: &impl Abort, alloc: Global, call: &Call) -> Result<String, Fail> {
+    let lib = Typelib::check(&SAMPLE)?;
+    let method = lib.method_at(2, call.slot).expect(rt, "no method");
+    let mut machine = Machine::new(alloc, call.conv)?;
+    let this = machine.add_object()?;
+    if let Some(entry) = call.stored {
+        store_entry(rt, &mut machine, call.slot, entry);
     }
-    (gprs, fprs)
+    Ok(outcome(rt, alloc, &mut machine, this, &method, call.args)?)
 }
 
 #[test]
 fn a_call_passes_what_its_cells_hold(rt: HostRuntime) -> Result<(), Fail> {
-    let lib = Typelib::check(&SAMPLE)?;
     for call in &CALLS {
-        let mut machine = Machine::new(rt.alloc(), call.conv)?;
-        let this = machine.add_object()?;
-        if let Some(entry) = call.stored {
-            let at = VTABLE_AT + u64::from(machine.word()) * u64::from(call.slot);
-            assert!(rt; machine.store(at, Width::W8, entry), "{}", call.name);
-        }
-        let method = method_in(&rt, &lib, call.slot);
-        let base = push_for(&rt, &mut machine, &method);
-        assert!(rt; fits_word(machine.conv(), CONTEXT), "{}", call.name);
-        let filled = fill_cells(&mut machine, base, &method, CONTEXT, call.args);
-        assert_eq!(rt; filled, Ok(()), "{}", call.name);
-        assert!(rt;
-            machine.slot_entry(this, method.slot()).is_some(),
-            "{}",
-            call.name
-        );
-        let entry = invoke_under(&mut machine, call.conv, this, base, &method);
-        assert_eq!(rt; entry, call.entry, "{}", call.name);
-        let frame = machine.frame();
-        assert_eq!(rt;
-            registers_of(frame),
-            (call.gprs, call.fprs),
-            "{}",
-            call.name
-        );
-        assert_eq!(rt; frame.stack(), call.stack, "{}", call.name);
+        let came = outcome_of(&rt, rt.alloc(), call)?;
+        check(&rt, call.name, came.as_str(), call.came);
     }
     Ok(())
 }

@@ -7,11 +7,15 @@
 #![tactic(auto)]
 
 #[cfg(test)]
+mod begun;
+#[cfg(test)]
 mod benches;
 #[cfg(test)]
 mod blocks;
 #[cfg(test)]
 mod calls;
+#[cfg(test)]
+mod forwards;
 #[cfg(test)]
 mod frames;
 #[cfg(test)]
@@ -26,3 +30,7 @@ mod places;
 mod replies;
 #[cfg(test)]
 mod stubs;
+#[cfg(test)]
+mod texts;
+#[cfg(test)]
+mod typelibs;
