@@ -1,11 +1,10 @@
 use call_model::Conv;
 use machine_bench::{Bench, MemBench, NoBench, Sight};
-use object_memory::{CELLS_AT, Machine, Width};
+use object_memory::{CELLS_AT, Frame, HeapError, Machine, Width};
 use std::alloc::Global;
 use std::test::Fail;
 
 /// What a sight has to show. Of vtable and heap, their length and their last bytes.
-#[derive(Drop)]
 struct Shown<'a> {
     name: &'a str,
     gprs: &'a [u64],
@@ -42,8 +41,16 @@ const SHOWN: [Shown<'static>; 2] = [
     },
 ];
 
+/// Registers and a stack.
+fn fill(frame: &mut Frame) {
+    frame.clear(4);
+    frame.set_gpr(2, 7);
+    frame.set_fpr(0, 9);
+    frame.set_stack(0, Width::W2, 0x0201);
+}
+
 /// A block, an object, two cells, registers and a stack.
-fn busy(machine: &mut Machine) -> Result<bool, Fail> {
+fn busy(machine: &mut Machine) -> Result<bool, HeapError> {
     let block = machine.add_block(&[5, 6])?;
     let object = machine.add_object()?;
     if machine.cells_free() < 2 {
@@ -51,10 +58,7 @@ fn busy(machine: &mut Machine) -> Result<bool, Fail> {
     }
     machine.push_cells(2);
     let stored = machine.store(CELLS_AT + 8, Width::W2, 0x1122);
-    machine.frame_mut().clear(4);
-    machine.frame_mut().set_gpr(2, 7);
-    machine.frame_mut().set_fpr(0, 9);
-    machine.frame_mut().set_stack(0, Width::W2, 0x0201);
+    fill(machine.frame_mut());
     Ok(stored && block < object)
 }
 
@@ -81,13 +85,9 @@ fn look_twice<B: Bench>(alloc: Global, bench: &mut B) -> Result<bool, Fail> {
 fn a_bench_remembers_what_it_was_shown(rt: HostRuntime) -> Result<(), Fail> {
     let mut bench = MemBench::new(rt.alloc());
     assert!(rt; look_twice(rt.alloc(), &mut bench)?, "made busy");
-    assert!(rt; bench.sights().len() == SHOWN.len(), "two looks");
-    for (k, shown) in SHOWN.iter().enumerate() {
-        let seen = bench
-            .sights()
-            .get(k)
-            .is_some_and(|sight| shows(sight, shown));
-        assert!(rt; seen, "{}", shown.name);
+    assert!(rt; bench.sights().len() == 2, "two looks");
+    for (sight, shown) in bench.sights().as_slice().iter().zip(&SHOWN) {
+        assert!(rt; shows(sight, shown), "{}", shown.name);
     }
     Ok(())
 }

@@ -4,7 +4,6 @@ use raw_block::Block;
 use std::test::Fail;
 
 /// What is done at a place of a block, or read there.
-#[derive(Drop)]
 enum Access<'a> {
     Store1(u8),
     Store2(u16),
@@ -18,7 +17,6 @@ enum Access<'a> {
 }
 
 /// An access at a place of a block of 16 bytes, and the bytes after it.
-#[derive(Drop)]
 struct Step<'a> {
     name: &'a str,
     at: usize,

@@ -5,14 +5,14 @@ use crate::texts::{add_cells, add_frame, check};
 use crate::typelibs::{ADD, GET_X, MIX, PICK, SAMPLE, SAY, SET_X};
 use call_model::Conv;
 use descriptor_reader::{MethodView, Typelib};
-use invoke_by_index::Arg;
-use object_memory::{Machine, VTABLE_AT, Width};
+use invoke_by_index::{Arg, ArgFault};
+use object_memory::{Machine, Width};
 use std::alloc::{AllocError, Global};
 use std::process::Abort;
 use std::test::Fail;
 
-/// A call of a method of nsIT, through an object that stands alone in the heap; what stands in the
-/// slot of the vtable before it, if not what a new machine has there; and what comes of it: the
+/// A call of a method of nsIT, through an object that stands alone in the heap; what is stored
+/// before it as the entry of add, if not what a new machine has there; and what comes of it: the
 /// entry, or what does not fit of the arguments, then the cells, and where they fit the frame.
 struct Call {
     name: &'static str,
@@ -22,6 +22,9 @@ struct Call {
     stored: Option<u64>,
     came: &'static str,
 }
+
+/// Where the entry of add stands in a vtable of words of 8 bytes.
+const ADD_ENTRY_AT: u64 = 0x10018;
 
 const TWO_NUMBERS: [Arg; 3] = [Arg::Value(2), Arg::Value(-1), Arg::Cell];
 
@@ -46,8 +49,8 @@ const CALLS: [Call; 25] = [
         slot: ADD,
         args: &TWO_NUMBERS,
         stored: None,
-        came: "entry 1030; cells 2 ffffffffffffffff 0; gpr 107d0 2 ffffffffffffffff 40000010 0 0 0 0; \
-            fpr 0 0 0 0 0 0 0 0; stack",
+        came: "entry 1030; cells 2 ffffffffffffffff 0; \
+            gpr 107d0 2 ffffffffffffffff 40000010 0 0 0 0; fpr 0 0 0 0 0 0 0 0; stack",
     },
     Call {
         name: "an entry that was stored",
@@ -55,8 +58,8 @@ const CALLS: [Call; 25] = [
         slot: ADD,
         args: &TWO_NUMBERS,
         stored: Some(0x9999),
-        came: "entry 9999; cells 2 ffffffffffffffff 0; gpr 107d0 2 ffffffffffffffff 40000010 0 0 0 0; \
-            fpr 0 0 0 0 0 0 0 0; stack",
+        came: "entry 9999; cells 2 ffffffffffffffff 0; \
+            gpr 107d0 2 ffffffffffffffff 40000010 0 0 0 0; fpr 0 0 0 0 0 0 0 0; stack",
     },
     Call {
         name: "one number",
@@ -263,10 +266,12 @@ const CALLS: [Call; 25] = [
     },
 ];
 
-/// Stores an entry in a slot of the vtable.
-fn store_entry(rt: &impl Abort, machine: &mut Machine, slot: u16, entry: u64) {
-    let at = VTABLE_AT + u64::from(machine.word()) * u64::from(slot);
-    assert!(rt; machine.store(at, Width::W8, entry));
+/// The entry of a call that was begun, or what does not fit of its arguments.
+fn begun(alloc: Global, begun: Result<u64, ArgFault>) -> Result<String, AllocError> {
+    match begun {
+        Ok(entry) => format!(in alloc; "entry {entry:x}"),
+        Err(fault) => format!(in alloc; "{fault:?}"),
+    }
 }
 
 /// What comes of a call of a method of the object at `this`.
@@ -278,19 +283,13 @@ fn outcome(
     method: &MethodView<'_>,
     args: &[Arg],
 ) -> Result<String, AllocError> {
-    match begin(rt, machine, this, method, args) {
-        Ok(entry) => {
-            let mut text = format!(in alloc; "entry {entry:x}")?;
-            add_cells(rt, &mut text, machine)?;
-            add_frame(&mut text, machine.frame())?;
-            Ok(text)
-        }
-        Err(fault) => {
-            let mut text = format!(in alloc; "{fault:?}")?;
-            add_cells(rt, &mut text, machine)?;
-            Ok(text)
-        }
+    let entry = begin(rt, machine, this, method, args);
+    let mut text = begun(alloc, entry)?;
+    add_cells(rt, &mut text, machine)?;
+    if entry.is_ok() {
+        add_frame(&mut text, machine.frame())?;
     }
+    Ok(text)
 }
 
 /// The same of a call of the table.
@@ -300,7 +299,7 @@ fn outcome_of(rt: &impl Abort, alloc: Global, call: &Call) -> Result<String, Fai
     let mut machine = Machine::new(alloc, call.conv)?;
     let this = machine.add_object()?;
     if let Some(entry) = call.stored {
-        store_entry(rt, &mut machine, call.slot, entry);
+        assert!(rt; machine.store(ADD_ENTRY_AT, Width::W8, entry));
     }
     Ok(outcome(rt, alloc, &mut machine, this, &method, call.args)?)
 }

@@ -8,7 +8,6 @@ use std::test::Fail;
 use sysv_x86_64::Walk;
 
 /// Arguments of a call under sysv64, and the frame that it begins with.
-#[derive(Drop)]
 struct Filled<'a> {
     name: &'a str,
     types: &'a [CType],
@@ -145,17 +144,22 @@ fn owns(frame: &Frame, at: Loc, n: u32) -> Option<u64> {
     }
 }
 
-// What stands above the own bytes does not count.
-#[test]
-fn the_own_bytes_of_a_location_are_its_low_ones(rt: HostRuntime) -> Result<(), Fail> {
-    let mut machine = Machine::new(rt.alloc(), Conv::SysV64)?;
-    let frame = machine.frame_mut();
+/// Puts patterns of all kinds into a frame, and stores them in it.
+fn fill(frame: &mut Frame) {
     frame.clear(16);
     frame.put(Loc::Gpr(7), 8, 0xffff_0000_ffff_1122);
     frame.set_fpr(0, 0xffff_ffff_8765_4321);
     frame.set_gpr(6, 6);
     frame.set_stack(3, Width::W2, 0x00ab_cdef);
     frame.set_stack_bytes(12, &[7, 8, 9]);
+}
+
+// What stands above the own bytes does not count.
+#[test]
+fn the_own_bytes_of_a_location_are_its_low_ones(rt: HostRuntime) -> Result<(), Fail> {
+    let mut machine = Machine::new(rt.alloc(), Conv::SysV64)?;
+    let frame = machine.frame_mut();
+    fill(frame);
     for (name, at, n, value) in &OWNS {
         assert!(rt; owns(frame, *at, *n) == Some(*value), "{name}");
     }

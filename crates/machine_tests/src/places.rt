@@ -1,12 +1,11 @@
-use call_model::{CType, Conv, Loc, fprs_of, gprs_of, passes_at, word_of};
+use call_model::{CType, Conv, Convention, Loc, fprs_of, gprs_of, passes_at, word_of};
 
 /// Arguments, and where a convention passes them.
-#[derive(Drop)]
-struct Call<'a> {
-    name: &'a str,
+struct Call {
+    name: &'static str,
     conv: Conv,
-    types: &'a [CType],
-    locations: &'a [Loc],
+    types: &'static [CType],
+    locations: &'static [Loc],
     stack_len: u32,
 }
 
@@ -68,21 +67,25 @@ const BY_CLASS: [Loc; 11] = [
     Loc::Stack(0),
 ];
 
-fn passes(call: &Call<'_>) -> bool {
-    if call.types.len() != call.locations.len() || call.types.len() > 512 {
-        return false;
-    }
+/// Whether a convention passes the arguments of a call at their places.
+fn passes_by<C: Convention>(call: &Call) -> bool {
+    call.types.len() == call.locations.len()
+        && call.types.len() <= 512
+        && passes_at::<C>(call.types, call.locations, call.stack_len)
+}
+
+fn passes(call: &Call) -> bool {
     match call.conv {
-        Conv::SysV64 => passes_at::<sysv_x86_64::Walk>(call.types, call.locations, call.stack_len),
-        Conv::I386 => passes_at::<cdecl_i386::Walk>(call.types, call.locations, call.stack_len),
-        Conv::Aapcs64 => passes_at::<aapcs64::Walk>(call.types, call.locations, call.stack_len),
-        Conv::Ms64 => passes_at::<ms_x64::Walk>(call.types, call.locations, call.stack_len),
-        Conv::Aapcs32 => passes_at::<aapcs32::Walk>(call.types, call.locations, call.stack_len),
+        Conv::SysV64 => passes_by::<sysv_x86_64::Walk>(call),
+        Conv::I386 => passes_by::<cdecl_i386::Walk>(call),
+        Conv::Aapcs64 => passes_by::<aapcs64::Walk>(call),
+        Conv::Ms64 => passes_by::<ms_x64::Walk>(call),
+        Conv::Aapcs32 => passes_by::<aapcs32::Walk>(call),
     }
 }
 
 /// Where each convention passes arguments.
-const CALLS: [Call<'static>; 9] = [
+const CALLS: [Call; 9] = [
     Call {
         name: "sysv64: the last two of seven longs stand on the stack",
         conv: Conv::SysV64,

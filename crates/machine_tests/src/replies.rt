@@ -98,8 +98,8 @@ fn kept_by(replier: Replier) -> usize {
     }
 }
 
-/// What comes of the call in a machine's frame: the result, the values that were received, the data,
-/// the cells, and how many items of its rule the replier gives back.
+/// What comes of the call in a machine's frame: the result, the values that were received, the
+/// data, the cells, and how many items of its rule the replier gives back.
 fn outcome(
     rt: &impl Abort,
     alloc: Global,

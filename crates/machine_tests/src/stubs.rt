@@ -1,10 +1,13 @@
 //! Calls that are taken back from a frame, and handed over.
 
-ghost use Rattle.std.specs.Prelude.{◌≡◌, slice_index};
+ghost use Rattle.std.specs.Prelude.{◌≡◌, slice_index, Contains, IfSome, IsSome, Some};
+ghost use Rattle.call_model.specs.declared.places.Conv.TheVariants.{SysV64};
+ghost use Rattle.object_memory.specs.Memory.{entry_at};
+ghost use Rattle.stub_dispatch.specs.Calls.{this_in};
 
 use crate::texts::{add_numbers, check};
 use crate::typelibs::SHORTS;
-use call_model::{Conv, Loc};
+use call_model::{Conv, Convention, Loc};
 use descriptor_reader::{MethodView, Typelib};
 use object_memory::{Frame, Machine};
 use script_calls::dispatch_under;
@@ -96,7 +99,18 @@ const RECEIVED: [Received; 8] = [
     },
 ];
 
-/// Takes the cells of a call back from a frame under a convention.
+/// Takes the cells of a call back from a frame.
+fn recover_by<C: Convention>(
+    rt: &impl Abort,
+    frame: &Frame,
+    method: &MethodView<'_>,
+    cells: &mut [u64],
+) -> Result<(), FrameShort> {
+    assert!(rt; cells.len() == method.positions() as usize);
+    recover::<C>(frame, method, cells)
+}
+
+/// The same under a convention.
 fn recover_under(
     rt: &impl Abort,
     conv: Conv,
@@ -104,13 +118,12 @@ fn recover_under(
     method: &MethodView<'_>,
     cells: &mut [u64],
 ) -> Result<(), FrameShort> {
-    assert!(rt; cells.len() == method.positions() as usize);
     match conv {
-        Conv::SysV64 => recover::<sysv_x86_64::Walk>(frame, method, cells),
-        Conv::I386 => recover::<cdecl_i386::Walk>(frame, method, cells),
-        Conv::Aapcs64 => recover::<aapcs64::Walk>(frame, method, cells),
-        Conv::Ms64 => recover::<ms_x64::Walk>(frame, method, cells),
-        Conv::Aapcs32 => recover::<aapcs32::Walk>(frame, method, cells),
+        Conv::SysV64 => recover_by::<sysv_x86_64::Walk>(rt, frame, method, cells),
+        Conv::I386 => recover_by::<cdecl_i386::Walk>(rt, frame, method, cells),
+        Conv::Aapcs64 => recover_by::<aapcs64::Walk>(rt, frame, method, cells),
+        Conv::Ms64 => recover_by::<ms_x64::Walk>(rt, frame, method, cells),
+        Conv::Aapcs32 => recover_by::<aapcs32::Walk>(rt, frame, method, cells),
     }
 }
 
@@ -170,6 +183,27 @@ impl Callee for Recorder {
     }
 }
 
+/// The address of the object that a frame of sysv64 calls.
+fn this_of(frame: &Frame) -> u64
+    ensures { result ≡ this_in SysV64 frame.now }
+{
+    frame.own(Loc::Gpr(0), 8)
+}
+
+/// The entry of a method of the object that a frame of sysv64 calls; none where it calls no object.
+fn entry_of(machine: &Machine, method: &MethodView<'_>) -> Option<u64>
+    ensures object { IsSome result
+        → Contains machine.now.objects (this_in SysV64 machine.now.frame) }
+    ensures entry { IfSome
+        result
+        (λ entry. entry_at machine.now (this_in SysV64 machine.now.frame) method.now.slot
+        ≡ Some entry) }
+{
+    let this = this_of(machine.frame());
+    machine.object_at(this)?;
+    machine.slot_entry(this, method.slot())
+}
+
 /// Hands the call of sysv64 in a machine's frame over to a callee, and gives what that answers.
 pub(crate) fn dispatch_here<K: Callee>(
     rt: &impl Abort,
@@ -178,11 +212,7 @@ pub(crate) fn dispatch_here<K: Callee>(
     callee: &mut K,
 ) -> u32 {
     assert!(rt; machine.word() == 8);
-    let this = machine.frame().own(Loc::Gpr(0), 8);
-    assert!(rt; machine.object_at(this).is_some());
-    let entry = machine
-        .slot_entry(this, method.slot())
-        .expect(rt, "no entry");
+    let entry = entry_of(machine, method).expect(rt, "no object");
     let answer = dispatch_under(Conv::SysV64, machine, entry, method, callee);
     answer.ok().expect(rt, "a short frame")
 }

@@ -1,7 +1,7 @@
 use Rattle.std.proofs.Common.{ℕ, ◌+◌, ◌<◌}
 use Rattle.std.specs.Prelude.{IsSome}
 use Rattle.proxy_objects.specs.Forwarding.{forward_of}
-use Rattle.machine_tests.proofs.forwards.the_seventeenth_forwarder_in_a_row_is_refused.Given as goal
+use Rattle.machine_tests.proofs.forwards.row.Given as goal
 
 -- each object that was added has a number up to that of the next target
 abbrev pub invariant-loop-target : goal.invariant-loop-target
