@@ -6,7 +6,7 @@ use crate::typelibs::{ADD, GET_X, MIX, PICK, SAMPLE, SAY, SET_X};
 use call_model::Conv;
 use descriptor_reader::{MethodView, Typelib};
 use invoke_by_index::{Arg, ArgFault};
-use object_memory::{Machine, Width};
+use object_memory::{HeapError, Machine, Width};
 use std::alloc::{AllocError, Global};
 use std::process::Abort;
 use std::test::Fail;
@@ -292,12 +292,18 @@ fn outcome(
     Ok(text)
 }
 
+/// A machine with an object, and the object's address.
+fn with_object(alloc: Global, conv: Conv) -> Result<(Machine, u64), HeapError> {
+    let mut machine = Machine::new(alloc, conv)?;
+    let this = machine.add_object()?;
+    Ok((machine, this))
+}
+
 /// The same of a call of the table.
 fn outcome_of(rt: &impl Abort, alloc: Global, call: &Call) -> Result<String, Fail> {
     let lib = Typelib::check(&SAMPLE)?;
     let method = lib.method_at(2, call.slot).expect(rt, "no method");
-    let mut machine = Machine::new(alloc, call.conv)?;
-    let this = machine.add_object()?;
+    let (mut machine, this) = with_object(alloc, call.conv)?;
     if let Some(entry) = call.stored {
         assert!(rt; machine.store(ADD_ENTRY_AT, Width::W8, entry));
     }

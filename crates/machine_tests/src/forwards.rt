@@ -40,6 +40,13 @@ fn add_last(rt: &impl Abort, forwards: &mut Forwards) -> Result<(), ForwardError
     forwards.add(17, 15, None)
 }
 
+/// The row, and object 17 behind the fifteenth of it.
+fn row_and_last(rt: &impl Abort, alloc: Global) -> Result<Forwards, ForwardError> {
+    let mut forwards = row(rt, alloc)?;
+    add_last(rt, &mut forwards)?;
+    Ok(forwards)
+}
+
 /// What an object hands its calls on to, under which convention of its own, and how many forwarders
 /// stand on the way.
 fn known(alloc: Global, forwards: &Forwards, object: u32) -> Result<String, AllocError> {
@@ -52,6 +59,12 @@ fn known(alloc: Global, forwards: &Forwards, object: u32) -> Result<String, Allo
         }
         None => format!(in alloc; "depth {depth}"),
     }
+}
+
+/// What is known of an object then.
+fn known_of(rt: &impl Abort, alloc: Global, object: u32) -> Result<String, Fail> {
+    let forwards = row_and_last(rt, alloc)?;
+    Ok(known(alloc, &forwards, object)?)
 }
 
 /// An object, and what is known of it.
@@ -67,10 +80,8 @@ const KNOWN: [(&str, u32, &str); 6] = [
 // Each on the last: the object behind the sixteenth can't be made a forwarder.
 #[test]
 fn the_seventeenth_forwarder_in_a_row_is_refused(rt: HostRuntime) -> Result<(), Fail> {
-    let mut forwards = row(&rt, rt.alloc())?;
-    add_last(&rt, &mut forwards)?;
     for (name, object, wanted) in &KNOWN {
-        let found = known(rt.alloc(), &forwards, *object)?;
+        let found = known_of(&rt, rt.alloc(), *object)?;
         check(&rt, name, found.as_str(), wanted);
     }
     Ok(())

@@ -51,11 +51,11 @@ fn told(machine: &Machine, call: &Call) -> Option<u64> {
 }
 
 /// The address of a new block; none where the heap has no space for it.
-fn added(block: Result<u64, HeapError>) -> Result<Option<u64>, HeapError> {
+fn address_of(block: Result<u64, HeapError>) -> Result<Option<u64>, HeapError> {
     match block {
         Ok(at) => Ok(Some(at)),
         Err(HeapError::Full) => Ok(None),
-        Err(HeapError::Memory) => Err(HeapError::Memory),
+        Err(error) => Err(error),
     }
 }
 
@@ -87,9 +87,9 @@ fn pop(machine: &mut Machine, n: u32) -> Option<u64> {
 /// What a machine answers.
 fn answer(alloc: Global, machine: &mut Machine, call: &Call) -> Result<Option<u64>, HeapError> {
     match call {
-        Call::AddBlock(bytes) => added(machine.add_block(bytes)),
-        Call::AddSevens(n) => added(add_sevens(alloc, machine, *n)),
-        Call::AddObject => added(machine.add_object()),
+        Call::AddBlock(bytes) => address_of(machine.add_block(bytes)),
+        Call::AddSevens(n) => address_of(add_sevens(alloc, machine, *n)),
+        Call::AddObject => address_of(machine.add_object()),
         Call::Store(at, width, v) => Ok(Some(u64::from(machine.store(*at, *width, *v)))),
         Call::StoreBytes(at, bytes) => Ok(Some(u64::from(machine.store_bytes(*at, bytes)))),
         Call::Push(n) => Ok(push(machine, *n)),

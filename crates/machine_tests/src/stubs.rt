@@ -29,15 +29,20 @@ struct Received {
 /// What stands in a cell before a call is taken back.
 const BEFORE: u64 = 0x5555;
 
+/// Gives a frame these general registers.
+fn set_gprs(frame: &mut Frame, gprs: &[u64; 8]) {
+    for i in 0..8 {
+        frame.set_gpr(i, gprs[i as usize]);
+    }
+}
+
 /// Gives a frame these general registers and this stack, and zeros elsewhere. A stack of more than
 /// 64 bytes is taken as 64.
 pub(crate) fn fill(frame: &mut Frame, gprs: &[u64; 8], stack: &[u8]) {
     let stack = &stack[..stack.len().min(64)];
     frame.clear(stack.len() as u32);
     frame.set_stack_bytes(0, stack);
-    for i in 0..8 {
-        frame.set_gpr(i, gprs[i as usize]);
-    }
+    set_gprs(frame, gprs);
 }
 
 const RECEIVED: [Received; 8] = [
@@ -229,18 +234,24 @@ pub(crate) fn calling(alloc: Global) -> Result<Machine, Fail> {
     Ok(machine)
 }
 
-#[test]
-fn a_call_is_handed_over_once(rt: HostRuntime) -> Result<(), Fail> {
+/// Hands the call in a machine's frame over to a recorder, and gives the answer and the recorder.
+fn recorded(rt: &impl Abort, machine: &mut Machine) -> Result<(u32, Recorder), Fail> {
     let lib = Typelib::check(&SHORTS)?;
-    let method = lib.method_at(1, 3).expect(&rt, "no method");
-    let mut machine = calling(rt.alloc())?;
+    let method = lib.method_at(1, 3).expect(rt, "no method");
     let mut recorder = Recorder {
         calls: 0,
         object: 0,
         slot: 0,
         cell: 0,
     };
-    let answer = dispatch_here(&rt, &mut machine, &method, &mut recorder);
+    let answer = dispatch_here(rt, machine, &method, &mut recorder);
+    Ok((answer, recorder))
+}
+
+#[test]
+fn a_call_is_handed_over_once(rt: HostRuntime) -> Result<(), Fail> {
+    let mut machine = calling(rt.alloc())?;
+    let (answer, recorder) = recorded(&rt, &mut machine)?;
     assert!(rt; answer == 7 && recorder.calls == 1);
     assert!(rt; recorder.object == 1 && recorder.slot == 3);
     assert!(rt; recorder.cell == 0xffff_ffff_ffff_8001);

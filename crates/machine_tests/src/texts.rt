@@ -25,6 +25,16 @@ pub(crate) fn add_bytes(text: &mut String, bytes: &[u8]) -> Result<(), AllocErro
     Ok(())
 }
 
+/// The number in a pushed cell.
+fn cell(rt: &impl Abort, machine: &Machine, at: u64) -> u64 {
+    machine.load(at, Width::W8).expect(rt, "no cell")
+}
+
+/// How many cells are pushed.
+fn pushed(machine: &Machine) -> u32 {
+    MOST_CELLS - machine.cells_free()
+}
+
 /// Adds the numbers in the pushed cells.
 pub(crate) fn add_cells(
     rt: &impl Abort,
@@ -33,9 +43,8 @@ pub(crate) fn add_cells(
 ) -> Result<(), AllocError> {
     text.push_str("; cells")?;
     let mut at = CELLS_AT;
-    for _ in machine.cells_free()..MOST_CELLS {
-        let cell = machine.load(at, Width::W8).expect(rt, "no cell");
-        write!(text, " {cell:x}")?;
+    for _ in 0..pushed(machine) {
+        add_numbers(text, &[cell(rt, machine, at)])?;
         at = at.saturating_add(8);
     }
     Ok(())
