@@ -4,11 +4,11 @@ use crate::stubs::{calling, dispatch_here};
 use crate::texts::{add_frame, add_numbers, check};
 use crate::typelibs::SHORTS;
 use call_model::Conv;
-use descriptor_reader::Typelib;
+use descriptor_reader::{BadTypelib, Typelib};
 use object_memory::Machine;
 use proxy_objects::forward_call;
 use script_calls::Forwarder;
-use std::alloc::Global;
+use std::alloc::{AllocError, Global};
 use std::process::Abort;
 use std::test::Fail;
 
@@ -74,18 +74,37 @@ const HANDED: [Handed; 6] = [
     },
 ];
 
-/// What comes of a call that is handed on.
-fn outcome_of(rt: &impl Abort, alloc: Global, row: &Handed) -> Result<String, Fail> {
+/// Hands the call of sh in a machine's frame over to a forwarder, and gives the result.
+fn hand_over(
+    rt: &impl Abort,
+    machine: &mut Machine,
+    forwarder: &mut Forwarder,
+) -> Result<u32, BadTypelib> {
     let lib = Typelib::check(&SHORTS)?;
     let method = lib.method_at(1, 3).expect(rt, "no method");
-    let mut machine = calling(alloc)?;
-    let mut forwarder = Forwarder::new(alloc, row.conv, row.target, row.positions)?;
-    let result = dispatch_here(rt, &mut machine, &method, &mut forwarder);
+    Ok(dispatch_here(rt, machine, &method, forwarder))
+}
+
+/// What is left of a call that was answered so.
+fn told(
+    alloc: Global,
+    answer: u32,
+    machine: &Machine,
+    forwarder: &Forwarder,
+) -> Result<String, AllocError> {
     let entry = forwarder.entry();
-    let mut text = format!(in alloc; "result {result:x}; entry {entry:x}; got")?;
+    let mut text = format!(in alloc; "result {answer:x}; entry {entry:x}; got")?;
     add_numbers(&mut text, forwarder.received())?;
     add_frame(&mut text, machine.frame())?;
     Ok(text)
+}
+
+/// What comes of a call that is handed on.
+fn outcome_of(rt: &impl Abort, alloc: Global, row: &Handed) -> Result<String, Fail> {
+    let mut machine = calling(alloc)?;
+    let mut forwarder = Forwarder::new(alloc, row.conv, row.target, row.positions)?;
+    let result = hand_over(rt, &mut machine, &mut forwarder)?;
+    Ok(told(alloc, result, &machine, &forwarder)?)
 }
 
 #[test]

@@ -98,8 +98,31 @@ fn kept_by(replier: Replier) -> usize {
     }
 }
 
-/// What comes of the call in a machine's frame: the result, the values that were received, the
-/// data, the cells, and how many items of its rule the replier gives back.
+/// What is left of a call that was answered so: the result, the values that were received, the data,
+/// and the cells.
+fn told(
+    rt: &impl Abort,
+    alloc: Global,
+    answer: u32,
+    machine: &Machine,
+    replier: &Replier,
+) -> Result<String, AllocError> {
+    let mut text = format!(in alloc; "result {answer:x}; got")?;
+    add_numbers(&mut text, replier.received())?;
+    text.push_str("; data")?;
+    add_bytes(&mut text, machine.bytes(DATA_AT, 8).expect(rt, "no data"))?;
+    add_cells(rt, &mut text, machine)?;
+    Ok(text)
+}
+
+/// A text with a count of items behind it.
+fn with_kept(mut text: String, kept: usize) -> Result<String, AllocError> {
+    write!(text, "; kept {kept}")?;
+    Ok(text)
+}
+
+/// What comes of the call in a machine's frame, and how many items of its rule the replier gives
+/// back.
 fn outcome(
     rt: &impl Abort,
     alloc: Global,
@@ -108,14 +131,8 @@ fn outcome(
     mut replier: Replier,
 ) -> Result<String, AllocError> {
     let result = dispatch_here(rt, machine, method, &mut replier);
-    let mut text = format!(in alloc; "result {result:x}; got")?;
-    add_numbers(&mut text, replier.received())?;
-    text.push_str("; data")?;
-    add_bytes(&mut text, machine.bytes(DATA_AT, 8).expect(rt, "no data"))?;
-    add_cells(rt, &mut text, machine)?;
-    let kept = kept_by(replier);
-    write!(text, "; kept {kept}")?;
-    Ok(text)
+    let text = told(rt, alloc, result, machine, &replier)?;
+    with_kept(text, kept_by(replier))
 }
 
 /// The address of the object that is called.
