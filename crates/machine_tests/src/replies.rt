@@ -98,8 +98,8 @@ fn kept_by(replier: Replier) -> usize {
     }
 }
 
-/// What is left of a call that was answered so: the result, the values that were received, the data,
-/// and the cells.
+/// What is left of a call that was answered so: the result, the values that were received, the
+/// data, and the cells.
 fn told(
     rt: &impl Abort,
     alloc: Global,
