@@ -1,14 +1,14 @@
 //! The frames that lines give.
 
+use crate::cases::{check, only_line, script_of};
 use call_model::Conv;
-use call_scripts::{Act, read_script};
+use call_scripts::{Act, EnterItem};
 use entered_frames::{enter_frame, misformed};
 use object_memory::Machine;
 use std::alloc::Global;
 use std::process::Abort;
-use std::test::Fail;
 use transcript_text::{Refusal, frame_lines, refused_line};
-use xp_base::{Bytes, MAX_TEXT};
+use xp_base::Bytes;
 
 /// A line for an object at 107d0 (hexadecimal) under a convention; and the frame that it gives, or
 /// the refusal of the first item that the frame does not take.
@@ -43,32 +43,31 @@ const ROWS: [(Conv, &str, &str); 8] = [
     ),
 ];
 
-/// What comes of a line.
-fn entered(alloc: Global, conv: Conv, act: &Act) -> Result<Bytes, Fail> {
-    let Act::Enter { items, .. } = act else {
-        return Ok(Bytes::new(alloc));
-    };
-    if let Some(item) = misformed(conv, items.as_slice()) {
-        return Ok(refused_line(alloc, Refusal::Form(u32::try_from(item)?))?);
+/// What comes of a line that enters an object.
+fn entered(rt: &impl Abort, alloc: Global, conv: Conv, items: &[EnterItem]) -> Bytes {
+    if let Some(item) = misformed(conv, items) {
+        let item = u32::try_from(item).expect(rt, "the number of an item");
+        return refused_line(alloc, Refusal::Form(item)).expect(rt, "a refusal");
     }
-    let mut machine = Machine::new(alloc, conv)?;
-    enter_frame(machine.frame_mut(), conv, 0x107d0, items.as_slice());
-    Ok(frame_lines(alloc, conv, machine.frame())?)
+    let mut machine = Machine::new(alloc, conv).expect(rt, "a machine");
+    enter_frame(machine.frame_mut(), conv, 0x107d0, items);
+    frame_lines(alloc, conv, machine.frame()).expect(rt, "a frame")
 }
 
 /// What comes of a text of one line.
-fn entered_by(rt: &impl Abort, alloc: Global, conv: Conv, text: &str) -> Result<Bytes, Fail> {
-    assert!(rt; text.len() <= MAX_TEXT);
-    let script = read_script(alloc, text.as_bytes())?;
-    let line = script.lines.get(0).expect(rt, "a line");
-    entered(alloc, conv, &line.act)
+fn entered_by(rt: &impl Abort, alloc: Global, conv: Conv, text: &str) -> Bytes {
+    let script = script_of(rt, alloc, text);
+    let items: &[EnterItem] = match &only_line(rt, &script).act {
+        Act::Enter { items, .. } => items.as_slice(),
+        _ => &[],
+    };
+    entered(rt, alloc, conv, items)
 }
 
 #[test]
-fn frames_are_those_of_their_lines(rt: HostRuntime) -> Result<(), Fail> {
+fn frames_are_those_of_their_lines(rt: HostRuntime) {
     for (conv, text, wanted) in &ROWS {
-        let frame = entered_by(&rt, rt.alloc(), *conv, text)?;
-        assert!(rt; frame.as_slice() == wanted.as_bytes(), "at {text}");
+        let frame = entered_by(&rt, rt.alloc(), *conv, text);
+        check(&rt, text, frame.as_slice(), wanted);
     }
-    Ok(())
 }

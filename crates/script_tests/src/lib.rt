@@ -3,7 +3,11 @@
 #![tactic(auto)]
 
 #[cfg(test)]
+mod cases;
+#[cfg(test)]
 mod entered;
+#[cfg(test)]
+mod failures;
 #[cfg(test)]
 mod members;
 #[cfg(test)]

@@ -4,9 +4,9 @@ use call_scripts::{MemberRef, MemberWord};
 use descriptor_reader::Typelib;
 use script_members::Members;
 use std::alloc::Global;
-use std::test::Fail;
+use std::process::Abort;
 use transcript_text::Refusal;
-use xp_base::{Bytes, List};
+use xp_base::{Bytes, List, Memory};
 
 /// nsISupports with its three methods, of which AddRef does not keep the rules of XPCOM and Release
 /// is hidden as well; and nsIL after it, in whose slot 3 stands `list`.
@@ -26,99 +26,76 @@ const MEMBERS: [u8; 202] = [
     0x40, 0x94, 0x00, 0x00, 0x01, 0x00, 0x06, 0x00, 0x00, 0x80,
 ];
 
-/// A member, and the number of its interface with its slot, or why it is refused.
-#[derive(Drop)]
-struct Row {
-    iface: &'static str,
-    kind: MemberWord,
-    name: &'static str,
-    found: Result<(u16, u16), Refusal>,
-}
+/// A member, by its interface, its kind and its name; and the number of its interface with its
+/// slot, or why it is refused.
+type Row = (
+    &'static str,
+    MemberWord,
+    &'static str,
+    Result<(u16, u16), Refusal>,
+);
 
 /// Each but the last two is another member, and these two were asked for before.
 const ROWS: [Row; 9] = [
-    Row {
-        iface: "nsIL",
-        kind: MemberWord::Plain,
-        name: "list",
-        found: Ok((2, 3)),
-    },
-    Row {
-        iface: "nsIL",
-        kind: MemberWord::Plain,
-        name: "QueryInterface",
-        found: Ok((2, 0)),
-    },
-    Row {
-        iface: "nsISupports",
-        kind: MemberWord::Plain,
-        name: "QueryInterface",
-        found: Ok((1, 0)),
-    },
-    Row {
-        iface: "nsIL",
-        kind: MemberWord::Plain,
-        name: "AddRef",
-        found: Err(Refusal::NotXpcom),
-    },
-    Row {
-        iface: "nsIL",
-        kind: MemberWord::Plain,
-        name: "Release",
-        found: Err(Refusal::Hidden),
-    },
-    Row {
-        iface: "nsIL",
-        kind: MemberWord::Get,
-        name: "list",
-        found: Err(Refusal::NoMethod),
-    },
-    Row {
-        iface: "nsIM",
-        kind: MemberWord::Plain,
-        name: "list",
-        found: Err(Refusal::NoInterface),
-    },
-    Row {
-        iface: "nsIL",
-        kind: MemberWord::Plain,
-        name: "list",
-        found: Ok((2, 3)),
-    },
-    Row {
-        iface: "nsIL",
-        kind: MemberWord::Get,
-        name: "list",
-        found: Err(Refusal::NoMethod),
-    },
+    ("nsIL", MemberWord::Plain, "list", Ok((2, 3))),
+    ("nsIL", MemberWord::Plain, "QueryInterface", Ok((2, 0))),
+    (
+        "nsISupports",
+        MemberWord::Plain,
+        "QueryInterface",
+        Ok((1, 0)),
+    ),
+    ("nsIL", MemberWord::Plain, "AddRef", Err(Refusal::NotXpcom)),
+    ("nsIL", MemberWord::Plain, "Release", Err(Refusal::Hidden)),
+    ("nsIL", MemberWord::Get, "list", Err(Refusal::NoMethod)),
+    ("nsIM", MemberWord::Plain, "list", Err(Refusal::NoInterface)),
+    ("nsIL", MemberWord::Plain, "list", Ok((2, 3))),
+    ("nsIL", MemberWord::Get, "list", Err(Refusal::NoMethod)),
 ];
 
+/// The member of a row.
+fn member_of(alloc: Global, row: &Row) -> Result<MemberRef, Memory> {
+    let (iface, kind, name, _) = row;
+    Ok(MemberRef {
+        iface: Bytes::copy(alloc, iface.as_bytes())?,
+        kind: *kind,
+        name: Bytes::copy(alloc, name.as_bytes())?,
+    })
+}
+
+/// Adds the member of a row.
+fn add_member(rt: &impl Abort, alloc: Global, members: &mut List<MemberRef>, row: &Row) {
+    let member = member_of(alloc, row).expect(rt, row.2);
+    members.push(member).expect(rt, "members");
+}
+
 /// The members of the rows.
-fn members_of_rows(alloc: Global) -> Result<List<MemberRef>, Fail> {
+fn members_of_rows(rt: &impl Abort, alloc: Global) -> List<MemberRef> {
     let mut members = List::new(alloc);
     for row in &ROWS {
-        members.push(MemberRef {
-            iface: Bytes::copy(alloc, row.iface.as_bytes())?,
-            kind: row.kind,
-            name: Bytes::copy(alloc, row.name.as_bytes())?,
-        })?;
+        add_member(rt, alloc, &mut members, row);
     }
-    Ok(members)
+    members
+}
+
+/// The number of a member's interface with its slot, or why the member is refused.
+fn found<'a>(
+    rt: &impl Abort,
+    members: &mut Members<'a>,
+    member: &'a MemberRef,
+) -> Result<(u16, u16), Refusal> {
+    members.remember(member).expect(rt, "a member");
+    let found = members.member_named(member)?;
+    Ok((found.iface, found.method.slot()))
 }
 
 #[test]
-fn members_are_found_and_remembered(rt: HostRuntime) -> Result<(), Fail> {
-    let alloc = rt.alloc();
+fn members_are_found_and_remembered(rt: HostRuntime) {
     let lib = Typelib::check(&MEMBERS).expect(&rt, "a typelib");
-    let asked = members_of_rows(alloc)?;
-    let mut members = Members::new(alloc, &lib);
-    for (row, member) in ROWS.iter().zip(asked.as_slice()) {
-        members.remember(member)?;
-        let found = match members.member_named(member) {
-            Ok(found) => Ok((found.iface, found.method.slot())),
-            Err(refusal) => Err(refusal),
-        };
-        assert!(rt; found == row.found, "at {}", row.name);
+    let asked = members_of_rows(&rt, rt.alloc());
+    let mut members = Members::new(rt.alloc(), &lib);
+    for ((iface, kind, name, wanted), member) in ROWS.iter().zip(asked.as_slice()) {
+        let found = found(&rt, &mut members, member);
+        assert!(rt; found == *wanted, "at {kind:?} {name} of {iface}");
     }
-    Ok(())
 }

@@ -1,11 +1,12 @@
 //! The lines for what comes out of calls.
 
+use crate::cases::check;
 use call_model::Conv;
 use descriptor_reader::{MethodView, Typelib};
 use object_memory::{CELLS_AT, MOST_CELLS, Machine, Width};
 use script_outs::out_line;
 use std::alloc::Global;
-use std::test::Fail;
+use std::process::Abort;
 use xp_base::Bytes;
 
 /// nsISupports with its three methods, and nsIL after it, in whose slot 3 stands
@@ -29,7 +30,6 @@ const LISTS: [u8; 202] = [
 /// A method of nsIL, by its slot; the values that it received, the numbers in its cells after the
 /// reply, the position that comes out, and its line. A data block of eight bytes stands at 107d0
 /// (hexadecimal): as numbers of 16 bits 1, -2, 3 and 0.
-#[derive(Drop)]
 struct Row<'a> {
     slot: u16,
     values: &'a [u64],
@@ -98,12 +98,20 @@ const ROWS: [Row<'static>; 7] = [
     },
 ];
 
+/// The identifier of nsIL, in memory order.
+const IID: [u8; 16] = [1, 0, 0, 0, 0, 0, 0, 0, 0xc0, 0, 0, 0, 0, 0, 0, 0x46];
+
+/// Adds a block to a machine.
+fn add_block(rt: &impl Abort, machine: &mut Machine, bytes: &[u8]) {
+    machine.add_block(bytes).expect(rt, "a block");
+}
+
 /// A machine with the data block, and behind it one with the identifier of nsIL.
-fn machine_with_blocks(alloc: Global) -> Result<Machine, Fail> {
-    let mut machine = Machine::new(alloc, Conv::SysV64)?;
-    machine.add_block(&DATA)?;
-    machine.add_block(&[1, 0, 0, 0, 0, 0, 0, 0, 0xc0, 0, 0, 0, 0, 0, 0, 0x46])?;
-    Ok(machine)
+fn machine_with_blocks(rt: &impl Abort, alloc: Global) -> Machine {
+    let mut machine = Machine::new(alloc, Conv::SysV64).expect(rt, "a machine");
+    add_block(rt, &mut machine, &DATA);
+    add_block(rt, &mut machine, &IID);
+    machine
 }
 
 /// Puts numbers into cells from the first on.
@@ -115,35 +123,31 @@ fn put_cells(machine: &mut Machine, cells: &[u64]) {
     }
 }
 
-/// The line of a row; None where the method has not as many arguments as the row has values.
+/// The line of a row, whose method has as many arguments as the row has values.
 fn line_of(
+    rt: &impl Abort,
     alloc: Global,
     lib: &Typelib<'_>,
     method: &MethodView<'_>,
     row: &Row<'_>,
-) -> Result<Option<Bytes>, Fail> {
-    let mut machine = machine_with_blocks(alloc)?;
+) -> Bytes {
+    let mut machine = machine_with_blocks(rt, alloc);
     let positions = method.positions();
-    if positions > machine.cells_free() {
-        return Ok(None);
-    }
+    assert!(rt; positions <= machine.cells_free());
     machine.push_cells(positions);
     put_cells(&mut machine, row.cells);
     let pushed = MOST_CELLS - machine.cells_free();
-    if pushed != positions || row.values.len() != positions as usize || row.k >= positions {
-        return Ok(None);
-    }
-    Ok(Some(out_line(alloc, lib, &machine, method, row.values, row.k)?))
+    assert!(rt; pushed == positions && row.values.len() == positions as usize);
+    assert!(rt; row.k < positions);
+    out_line(alloc, lib, &machine, method, row.values, row.k).expect(rt, row.line)
 }
 
 #[test]
-fn what_comes_out_is_told_with_its_note(rt: HostRuntime) -> Result<(), Fail> {
+fn what_comes_out_is_told_with_its_note(rt: HostRuntime) {
     let lib = Typelib::check(&LISTS).expect(&rt, "a typelib");
     for row in &ROWS {
         let method = lib.method_at(2, row.slot).expect(&rt, "a method");
-        let line = line_of(rt.alloc(), &lib, &method, row)?;
-        let told = line.is_some_and(|line| line.as_slice() == row.line.as_bytes());
-        assert!(rt; told, "{}", row.line);
+        let line = line_of(&rt, rt.alloc(), &lib, &method, row);
+        check(&rt, row.line, line.as_slice(), row.line);
     }
-    Ok(())
 }

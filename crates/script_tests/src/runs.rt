@@ -1,19 +1,15 @@
-//! Scripts that are run: what a bench sees of their calls, and what is left where a sink or a bench
-//! fails.
+//! Scripts that are run: what a bench sees of their calls.
 
-ghost use Rattle.std.specs.Prelude.{None};
-
+use crate::cases::script_of;
 use crate::typelibs::{ADDS, BOOLEANS, SHORTS};
 use call_model::Conv;
-use call_scripts::{Script, read_script};
 use descriptor_reader::Typelib;
-use machine_bench::{Bench, MemBench, NoBench, Sight};
+use machine_bench::{Bench, MemBench, Sight};
 use object_memory::Machine;
 use script_run::run_script;
 use std::alloc::Global;
 use std::process::Abort;
-use std::test::Fail;
-use xp_base::{CalmSink, List, MAX_TEXT, MAX_TYPELIB, MemSink, Memory, RunFault};
+use xp_base::{CalmSink, MAX_TYPELIB, RunFault, Sink};
 
 /// A script on a typelib under a convention; where its object of number 0 is; and what a bench sees
 /// of its calls, with the length of vtable and heap.
@@ -36,7 +32,7 @@ struct Seen {
     blocks: &'static [u8],
 }
 
-const SUMS: &str = "\
+pub(crate) const SUMS: &str = "\
 object o nsIT
 reply o nsIT.add a2=$a0+$a1
 call o nsIT.add 2 -1 ->s
@@ -240,27 +236,43 @@ const RUNS: [Run; 5] = [
     },
 ];
 
-/// The script of a text.
-fn script_of(rt: &impl Abort, alloc: Global, text: &str) -> Result<Script, Fail> {
-    assert!(rt; text.len() <= MAX_TEXT);
-    Ok(read_script(alloc, text.as_bytes())?)
+/// Runs a text over a typelib on a new machine, into a sink and before a bench. Gives the machine.
+pub(crate) fn ran<O: Sink, B: Bench>(
+    rt: &impl Abort,
+    alloc: Global,
+    typelib: &[u8],
+    conv: Conv,
+    text: &str,
+    out: &mut O,
+    bench: &mut B,
+) -> Result<Machine, RunFault> {
+    assert!(rt; typelib.len() <= MAX_TYPELIB);
+    let lib = Typelib::check(typelib).expect(rt, "a typelib");
+    let script = script_of(rt, alloc, text);
+    let mut machine = Machine::new(alloc, conv).expect(rt, "a machine");
+    match run_script(alloc, &mut machine, &lib, &script, out, bench) {
+        Ok(()) => Ok(machine),
+        Err(fault) => Err(fault),
+    }
 }
 
 /// What a bench sees of a run, after which the object is where it is to be.
-fn seen_of(rt: &impl Abort, alloc: Global, run: &Run) -> Result<MemBench, Fail> {
-    assert!(rt; run.typelib.len() <= MAX_TYPELIB);
-    let lib = Typelib::check(run.typelib).expect(rt, "a typelib");
-    let script = script_of(rt, alloc, run.script)?;
-    let mut machine = Machine::new(alloc, run.conv)?;
+fn seen_of(rt: &impl Abort, alloc: Global, run: &Run) -> MemBench {
     let mut out = CalmSink::new(alloc);
     let mut bench = MemBench::new(alloc);
-    run_script(alloc, &mut machine, &lib, &script, &mut out, &mut bench)?;
-    assert!(rt;
-        machine.object_at(run.object) == Some(0),
-        "object of {}",
-        run.name
-    );
-    Ok(bench)
+    let machine = ran(
+        rt,
+        alloc,
+        run.typelib,
+        run.conv,
+        run.script,
+        &mut out,
+        &mut bench,
+    )
+    .expect(rt, run.name);
+    let object = machine.object_at(run.object);
+    assert!(rt; object == Some(0), "object of {}", run.name);
+    bench
 }
 
 /// Whether a sight is the one that is wanted.
@@ -273,105 +285,26 @@ fn is_seen(sight: &Sight, seen: &Seen, heap: usize) -> bool {
         && sight.heap.as_slice().ends_with(seen.blocks)
 }
 
+/// Whether sights are those that are wanted of a run.
+fn are_seen(sights: &[Sight], run: &Run) -> bool {
+    for (sight, seen) in sights.iter().zip(run.sights) {
+        if !is_seen(sight, seen, run.heap) {
+            return false;
+        }
+    }
+    sights.len() == run.sights.len()
+}
+
+/// A bench sees what is wanted of a run.
+fn check_run(rt: &impl Abort, alloc: Global, run: &Run) {
+    let bench = seen_of(rt, alloc, run);
+    let sights = bench.sights().as_slice();
+    assert!(rt; are_seen(sights, run), "at {}: {sights:?}", run.name);
+}
+
 #[test]
-fn a_bench_sees_all_that_calls_pass(rt: HostRuntime) -> Result<(), Fail> {
+fn a_bench_sees_all_that_calls_pass(rt: HostRuntime) {
     for run in &RUNS {
-        let bench = seen_of(&rt, rt.alloc(), run)?;
-        let sights = bench.sights().as_slice();
-        assert!(rt; sights.len() == run.sights.len(), "sights of {}", run.name);
-        for (sight, seen) in sights.iter().zip(run.sights) {
-            assert!(rt; is_seen(sight, seen, run.heap), "{sight:?} of {}", run.name);
-        }
+        check_run(&rt, rt.alloc(), run);
     }
-    Ok(())
-}
-
-const TRANSCRIPT_OF_SUMS: &str = "\
-> object o nsIT
-at 107d0
-> reply o nsIT.add a2=$a0+$a1
-ok
-> call o nsIT.add 2 -1 ->s
-slot 3 entry 1030
-gpr 107d0 2 ffffffffffffffff 40000010 0 0
-fpr 0 0 0 0 0 0 0 0
-stack -
-got 2 -1 0x40000010
-result 00000000
-out 2 1
-> call o nsIT.add 3 4 ->t
-slot 3 entry 1030
-gpr 107d0 3 4 40000010 0 0
-fpr 0 0 0 0 0 0 0 0
-stack -
-got 3 4 0x40000010
-result 00000000
-out 2 7
-";
-
-/// Runs the two sums into a sink, before a bench.
-fn run_sums<B: Bench>(
-    rt: &impl Abort,
-    alloc: Global,
-    out: &mut MemSink,
-    bench: &mut B,
-) -> Result<Result<(), RunFault>, Fail> {
-    let lib = Typelib::check(&ADDS).expect(rt, "a typelib");
-    let script = script_of(rt, alloc, SUMS)?;
-    let mut machine = Machine::new(alloc, Conv::SysV64)?;
-    Ok(run_script(alloc, &mut machine, &lib, &script, out, bench))
-}
-
-/// A sink that takes a byte at a time, and fails at the put of this number.
-fn sink_failing_at(alloc: Global, put: usize) -> Result<MemSink, Fail> {
-    let mut fails = List::new(alloc);
-    fails.push(put as u64)?;
-    Ok(MemSink::new(alloc, 1, fails))
-}
-
-#[test]
-fn a_sink_that_fails_keeps_what_it_took(rt: HostRuntime) -> Result<(), Fail> {
-    let alloc = rt.alloc();
-    let whole = TRANSCRIPT_OF_SUMS.as_bytes();
-    for taken in 0..whole.len() {
-        let mut out = sink_failing_at(alloc, taken + 1)?;
-        let ran = run_sums(&rt, alloc, &mut out, &mut NoBench::new())?;
-        assert!(rt; matches!(ran, Err(RunFault::Sink)), "after {taken} bytes");
-        assert!(rt; out.written() == &whole[..taken], "after {taken} bytes");
-    }
-    let mut out = sink_failing_at(alloc, whole.len() + 1)?;
-    run_sums(&rt, alloc, &mut out, &mut NoBench::new())?.expect(&rt, "a run");
-    assert!(rt; out.written() == whole);
-    Ok(())
-}
-
-/// A bench that has memory for some looks only.
-#[derive(Drop)]
-struct TiredBench {
-    looks: u32,
-}
-
-impl Bench for TiredBench {
-    ghost seen = { λ _. None };
-
-    fn look(&mut self, _machine: &Machine) -> Result<(), Memory> {
-        if self.looks == 0 {
-            return Err(Memory);
-        }
-        self.looks -= 1;
-        Ok(())
-    }
-}
-
-#[test]
-fn a_bench_that_fails_ends_the_run(rt: HostRuntime) -> Result<(), Fail> {
-    let alloc = rt.alloc();
-    for looks in 0..4 {
-        let mut out = MemSink::new(alloc, 1, List::new(alloc));
-        let ran = run_sums(&rt, alloc, &mut out, &mut TiredBench { looks })?;
-        assert!(rt; matches!(ran, Err(RunFault::Memory)), "after {looks} looks");
-        let is_first = TRANSCRIPT_OF_SUMS.as_bytes().starts_with(out.written());
-        assert!(rt; is_first, "after {looks} looks");
-    }
-    Ok(())
 }

@@ -1,60 +1,26 @@
 //! The words and the lines of a transcript.
 
+use crate::cases::check;
 use call_model::{CType, Conv};
 use object_memory::{Machine, Width};
-use std::process::Abort;
-use std::test::Fail;
+use std::alloc::Global;
 use transcript_text::{
     Refusal, at_line, echo_line, frame_lines, got_line, refused_line, result_line, slot_line,
     value_word,
 };
-use xp_base::Bytes;
+use xp_base::{Bytes, List, Memory};
 
-/// The text that was made is what was wanted.
-fn check(rt: &impl Abort, made: &Bytes, wanted: &str) {
-    assert_eq!(rt; made.as_slice(), wanted.as_bytes(), "for {wanted}");
-}
-
-/// Types, patterns, and the words of their values.
-const VALUES: [(CType, u64, &str); 6] = [
-    (CType::I32, u64::MAX, "-1"),
-    (CType::I8, 0x7f, "127"),
-    (CType::U64, u64::MAX, "18446744073709551615"),
-    (CType::Bool, 1, "1"),
-    (CType::Ptr, 0x107d0, "0x107d0"),
-    (CType::F32, 0, "0x0"),
-];
-
-#[test]
-fn values_are_numbers_of_their_types(rt: HostRuntime) -> Result<(), Fail> {
-    for (ty, pattern, word) in &VALUES {
-        check(&rt, &value_word(rt.alloc(), *ty, *pattern)?, word);
-    }
-    Ok(())
-}
-
-#[test]
-fn lines_are_worded(rt: HostRuntime) -> Result<(), Fail> {
-    let alloc = rt.alloc();
-    let words = [Bytes::copy(alloc, b"-1")?, Bytes::copy(alloc, b"0x0")?];
-    check(&rt, &slot_line(alloc, 3)?, "slot 3 entry 1030\n");
-    check(&rt, &got_line(alloc, &[])?, "got -\n");
-    check(&rt, &got_line(alloc, &words)?, "got -1 0x0\n");
-    check(&rt, &result_line(alloc, 0x80004001)?, "result 80004001\n");
-    check(&rt, &result_line(alloc, 0)?, "result 00000000\n");
-    check(
-        &rt,
-        &refused_line(alloc, Refusal::Range(0))?,
-        "refused range 0\n",
-    );
-    check(
-        &rt,
-        &refused_line(alloc, Refusal::NoName)?,
-        "refused no name\n",
-    );
-    check(&rt, &at_line(alloc, 0x107d0)?, "at 107d0\n");
-    check(&rt, &echo_line(alloc, b"cells 1")?, "> cells 1\n");
-    Ok(())
+/// What is told in the words of a transcript.
+enum Told {
+    Value(CType, u64),
+    Slot(u16),
+    Got(&'static [&'static str]),
+    Result(u32),
+    Refused(Refusal),
+    At(u64),
+    Echo(&'static str),
+    FullFrame,
+    EmptyFrame,
 }
 
 const FULL_FRAME: &str = "\
@@ -69,26 +35,73 @@ fpr -
 stack -
 ";
 
-#[test]
-fn a_frame_has_three_lines(rt: HostRuntime) -> Result<(), Fail> {
-    let alloc = rt.alloc();
-    let mut full = Machine::new(alloc, Conv::SysV64)?;
-    let frame = full.frame_mut();
+/// What is told, and its text.
+const ROWS: [(Told, &str); 17] = [
+    (Told::Value(CType::I32, u64::MAX), "-1"),
+    (Told::Value(CType::I8, 0x7f), "127"),
+    (Told::Value(CType::U64, u64::MAX), "18446744073709551615"),
+    (Told::Value(CType::Bool, 1), "1"),
+    (Told::Value(CType::Ptr, 0x107d0), "0x107d0"),
+    (Told::Value(CType::F32, 0), "0x0"),
+    (Told::Slot(3), "slot 3 entry 1030\n"),
+    (Told::Got(&[]), "got -\n"),
+    (Told::Got(&["-1", "0x0"]), "got -1 0x0\n"),
+    (Told::Result(0x8000_4001), "result 80004001\n"),
+    (Told::Result(0), "result 00000000\n"),
+    (Told::Refused(Refusal::Range(0)), "refused range 0\n"),
+    (Told::Refused(Refusal::NoName), "refused no name\n"),
+    (Told::At(0x107d0), "at 107d0\n"),
+    (Told::Echo("cells 1"), "> cells 1\n"),
+    (Told::FullFrame, FULL_FRAME),
+    (Told::EmptyFrame, EMPTY_FRAME),
+];
+
+/// The line of the values that were received.
+fn got(alloc: Global, values: &[&str]) -> Result<Bytes, Memory> {
+    let mut words = List::new(alloc);
+    for value in values {
+        words.push(Bytes::copy(alloc, value.as_bytes())?)?;
+    }
+    got_line(alloc, words.as_slice())
+}
+
+/// The lines of a frame with two registers and two words on its stack.
+fn full_frame(alloc: Global) -> Result<Bytes, Memory> {
+    let mut machine = Machine::new(alloc, Conv::SysV64)?;
+    let frame = machine.frame_mut();
     frame.clear(16);
     frame.set_gpr(0, 0x107d0);
     frame.set_gpr(1, u64::MAX);
     frame.set_stack(0, Width::W8, 6);
     frame.set_stack(8, Width::W8, 7);
-    let empty = Machine::new(alloc, Conv::I386)?;
-    check(
-        &rt,
-        &frame_lines(alloc, Conv::SysV64, full.frame())?,
-        FULL_FRAME,
-    );
-    check(
-        &rt,
-        &frame_lines(alloc, Conv::I386, empty.frame())?,
-        EMPTY_FRAME,
-    );
-    Ok(())
+    frame_lines(alloc, Conv::SysV64, machine.frame())
+}
+
+/// The lines of a frame with nothing in it.
+fn empty_frame(alloc: Global) -> Result<Bytes, Memory> {
+    let machine = Machine::new(alloc, Conv::I386)?;
+    frame_lines(alloc, Conv::I386, machine.frame())
+}
+
+/// The text of what is told.
+fn worded(alloc: Global, told: &Told) -> Result<Bytes, Memory> {
+    match told {
+        Told::Value(ty, pattern) => value_word(alloc, *ty, *pattern),
+        Told::Slot(slot) => slot_line(alloc, *slot),
+        Told::Got(values) => got(alloc, values),
+        Told::Result(status) => result_line(alloc, *status),
+        Told::Refused(refusal) => refused_line(alloc, *refusal),
+        Told::At(address) => at_line(alloc, *address),
+        Told::Echo(echo) => echo_line(alloc, echo.as_bytes()),
+        Told::FullFrame => full_frame(alloc),
+        Told::EmptyFrame => empty_frame(alloc),
+    }
+}
+
+#[test]
+fn transcripts_are_worded(rt: HostRuntime) {
+    for (told, wanted) in &ROWS {
+        let text = worded(rt.alloc(), told).expect(&rt, wanted);
+        check(&rt, wanted, text.as_slice(), wanted);
+    }
 }
