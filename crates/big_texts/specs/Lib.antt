@@ -1,0 +1,5 @@
+pub mod Idl
+pub mod Numbers
+pub mod Pieces
+pub mod Script
+pub mod Summary
