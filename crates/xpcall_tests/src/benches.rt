@@ -1,11 +1,11 @@
 //! What a bench sees of a run.
 
 use crate::files::{CALL, SUPPORTS};
-use crate::outcomes::{outcome, seen};
-use crate::transcripts::ADD;
-use machine_bench::Sight;
+use crate::outcomes::{compiled, outcome};
+use crate::transcripts::interfaces::ADD;
+use machine_bench::{MemBench, Sight};
+use std::alloc::Global;
 use std::process::Abort;
-use std::test::Fail;
 
 const TWO_CALLS: &[u8] = b"\
 object o nsIT
@@ -23,7 +23,6 @@ jump
 ";
 
 /// The general registers of a sight, and its cells.
-#[derive(Drop)]
 struct Seen {
     registers: [u64; 8],
     cells: [u64; 3],
@@ -49,36 +48,41 @@ const SEEN: [Seen; 4] = [
     },
 ];
 
-/// The sight has these registers and cells.
-fn check(rt: &impl Abort, sight: &Sight, wanted: &Seen) {
-    assert_eq!(rt; sight.gprs.as_slice(), &wanted.registers[..]);
-    assert_eq!(rt; sight.cells.as_slice(), &wanted.cells[..]);
-}
+/// The name of a run, its script, its status, and what a bench sees of it.
+type Row = (&'static str, &'static [u8], u8, &'static [Seen]);
 
-#[test]
-fn a_bench_sees_each_call_twice(rt: HostRuntime) -> Result<(), Fail> {
-    let alloc = rt.alloc();
-    let idl: [(&str, &[u8]); 2] = [("a.idl", ADD), ("nsISupports.idl", SUPPORTS)];
-    let (_, typelib, _) = outcome(alloc, &["compile", "a.idl"], &idl)?;
-    let files = [("a.xpt", typelib.written()), ("s.txt", TWO_CALLS)];
-    let (status, bench) = seen(alloc, CALL, &files)?;
-    assert_eq!(rt; status, 0);
-    let sights = bench.sights().as_slice();
-    assert_eq!(rt; sights.len(), SEEN.len());
-    for (sight, wanted) in sights.iter().zip(&SEEN) {
-        check(&rt, sight, wanted);
+const ROWS: [Row; 2] = [
+    ("each call, twice", TWO_CALLS, 0, &SEEN),
+    ("nothing of a failed run", UNREAD, 12, &[]),
+];
+
+/// Whether sights have these registers and cells.
+fn are_seen(sights: &[Sight], wanted: &[Seen]) -> bool {
+    for (sight, seen) in sights.iter().zip(wanted) {
+        let has_registers = sight.gprs.as_slice() == &seen.registers[..];
+        if !has_registers || sight.cells.as_slice() != &seen.cells[..] {
+            return false;
+        }
     }
-    Ok(())
+    sights.len() == wanted.len()
+}
+
+/// The run of a row comes to its status and its sights.
+fn check_row(rt: &impl Abort, alloc: Global, typelib: &[u8], row: &Row) {
+    let (name, script, wanted, seen) = row;
+    let files = [("a.xpt", typelib), ("s.txt", *script)];
+    let mut bench = MemBench::new(alloc);
+    let (status, _, _) = outcome(rt, alloc, CALL, &files, &mut bench);
+    assert!(rt; status == *wanted, "the status at {name}");
+    let sights = bench.sights().as_slice();
+    assert!(rt; are_seen(sights, seen), "at {name}: {sights:?}");
 }
 
 #[test]
-fn a_bench_sees_nothing_of_a_failed_run(rt: HostRuntime) -> Result<(), Fail> {
-    let alloc = rt.alloc();
+fn a_bench_sees_calls(rt: HostRuntime) {
     let idl: [(&str, &[u8]); 2] = [("a.idl", ADD), ("nsISupports.idl", SUPPORTS)];
-    let (_, typelib, _) = outcome(alloc, &["compile", "a.idl"], &idl)?;
-    let files = [("a.xpt", typelib.written()), ("s.txt", UNREAD)];
-    let (status, bench) = seen(alloc, CALL, &files)?;
-    assert_eq!(rt; status, 12);
-    assert_eq!(rt; bench.sights().len(), 0);
-    Ok(())
+    let typelib = compiled(&rt, rt.alloc(), "a.idl", &idl);
+    for row in &ROWS {
+        check_row(&rt, rt.alloc(), typelib.written(), row);
+    }
 }

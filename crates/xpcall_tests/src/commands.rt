@@ -1,36 +1,61 @@
 //! Words that are no command, and files that are absent.
 
 use crate::files::{CALL, COMPILE, TYPELIB};
-use crate::outcomes::{Run, check};
-use std::test::Fail;
+use crate::outcomes::{Run, check_all};
 
 const USAGE: &[u8] = b"usage: xpcall compile FILE... | dump XPT | call CONV XPT SCRIPT | big N\n";
 
-/// Words that are no command.
-const UNKNOWN: [(&str, &[&str]); 7] = [
-    ("a convention that is none", &["call", "vax", "a", "b"]),
-    ("an empty name", &["call", "sysv64", "a", ""]),
-    ("no file", &["compile"]),
-    ("an empty file name", &["compile", ""]),
-    ("an empty second name", &["compile", "a", ""]),
-    ("no typelib", &["dump"]),
-    ("two typelibs", &["dump", "a", "b"]),
+/// A run of words that are no command.
+const REFUSED: Run<'static> = Run {
+    name: "no words",
+    words: &[],
+    files: &[],
+    status: 2,
+    out: b"",
+    err: USAGE,
+};
+
+const UNKNOWN: [Run<'static>; 7] = [
+    Run {
+        name: "a convention that is none",
+        words: &["call", "vax", "a", "b"],
+        ..REFUSED
+    },
+    Run {
+        name: "an empty name",
+        words: &["call", "sysv64", "a", ""],
+        ..REFUSED
+    },
+    Run {
+        name: "no file",
+        words: &["compile"],
+        ..REFUSED
+    },
+    Run {
+        name: "an empty file name",
+        words: &["compile", ""],
+        ..REFUSED
+    },
+    Run {
+        name: "an empty second name",
+        words: &["compile", "a", ""],
+        ..REFUSED
+    },
+    Run {
+        name: "no typelib",
+        words: &["dump"],
+        ..REFUSED
+    },
+    Run {
+        name: "two typelibs",
+        words: &["dump", "a", "b"],
+        ..REFUSED
+    },
 ];
 
 #[test]
-fn words_are_refused(rt: HostRuntime) -> Result<(), Fail> {
-    for (name, words) in &UNKNOWN {
-        let run = Run {
-            name,
-            words,
-            files: &[],
-            status: 2,
-            out: b"",
-            err: USAGE,
-        };
-        check(&rt, rt.alloc(), &run)?;
-    }
-    Ok(())
+fn words_are_refused(rt: HostRuntime) {
+    check_all(&rt, rt.alloc(), &UNKNOWN);
 }
 
 const ABSENT: [Run<'static>; 3] = [
@@ -61,9 +86,6 @@ const ABSENT: [Run<'static>; 3] = [
 ];
 
 #[test]
-fn files_are_absent(rt: HostRuntime) -> Result<(), Fail> {
-    for run in &ABSENT {
-        check(&rt, rt.alloc(), run)?;
-    }
-    Ok(())
+fn files_are_absent(rt: HostRuntime) {
+    check_all(&rt, rt.alloc(), &ABSENT);
 }

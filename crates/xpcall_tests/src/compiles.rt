@@ -1,9 +1,7 @@
 //! The command `compile`.
 
 use crate::files::{COMPILE, THIN, TYPELIB};
-use crate::outcomes::{Run, check, outcome};
-use std::alloc::{AllocError, Global};
-use std::test::Fail;
+use crate::outcomes::{Run, check_all};
 
 /// The typelib of no interfaces: a header and an annotation.
 const EMPTY: [u8; 36] = [
@@ -20,146 +18,89 @@ interface nsIA {
   void f();
   void f(); };";
 
-/// A text with its name, the status of a run that compiles it, the output, and the error output.
-const TEXTS: [(&str, &[u8], u8, &[u8], &[u8]); 11] = [
-    ("one method", THIN, 0, &TYPELIB, b""),
-    ("no interface", b"", 0, &EMPTY, b""),
-    (
-        "an interface with no end",
-        b"interface nsIA {",
-        10,
-        b"",
-        b"a.idl:1: syntax\n",
-    ),
-    ("no token", b"interface ?", 10, b"", b"a.idl:1: token\n"),
-    (
-        "no token on the third line",
-        b"/* \n */\n ?",
-        10,
-        b"",
-        b"a.idl:3: token\n",
-    ),
-    (
-        "a constant past its range",
-        WIDE_CONSTANT,
-        10,
-        b"",
-        b"a.idl:1: fault 11\n",
-    ),
-    (
-        "no identifier",
-        b"\n\ninterface nsIA { };",
-        10,
-        b"",
-        b"a.idl:3: fault 4\n",
-    ),
-    (
-        "an unknown type",
-        b"typedef long a;\ntypedef b c;",
-        10,
-        b"",
-        b"a.idl:2: fault 2\n",
-    ),
-    (
-        "a method that stands twice",
-        METHOD_TWICE,
-        10,
-        b"",
-        b"a.idl:4: fault 1\n",
-    ),
-    (
-        "a name of no value",
-        b"typedef void a;",
-        10,
-        b"",
-        b"a.idl:1: fault 6\n",
-    ),
-    (
-        "an absent file",
-        b"#include \"b.idl\"",
-        6,
-        b"",
-        b"no file b.idl\n",
-    ),
+/// A run that compiles one file.
+const ONE: Run<'static> = Run {
+    name: "one method",
+    words: COMPILE,
+    files: &[("a.idl", THIN)],
+    status: 0,
+    out: &TYPELIB,
+    err: b"",
+};
+
+/// A run that refuses one file.
+const REFUSED: Run<'static> = Run {
+    name: "an interface with no end",
+    words: COMPILE,
+    files: &[("a.idl", b"interface nsIA {")],
+    status: 10,
+    out: b"",
+    err: b"a.idl:1: syntax\n",
+};
+
+const TEXTS: [Run<'static>; 11] = [
+    ONE,
+    Run {
+        name: "no interface",
+        files: &[("a.idl", b"")],
+        out: &EMPTY,
+        ..ONE
+    },
+    REFUSED,
+    Run {
+        name: "no token",
+        files: &[("a.idl", b"interface ?")],
+        err: b"a.idl:1: token\n",
+        ..REFUSED
+    },
+    Run {
+        name: "no token on the third line",
+        files: &[("a.idl", b"/* \n */\n ?")],
+        err: b"a.idl:3: token\n",
+        ..REFUSED
+    },
+    Run {
+        name: "a constant past its range",
+        files: &[("a.idl", WIDE_CONSTANT)],
+        err: b"a.idl:1: fault 11\n",
+        ..REFUSED
+    },
+    Run {
+        name: "no identifier",
+        files: &[("a.idl", b"\n\ninterface nsIA { };")],
+        err: b"a.idl:3: fault 4\n",
+        ..REFUSED
+    },
+    Run {
+        name: "an unknown type",
+        files: &[("a.idl", b"typedef long a;\ntypedef b c;")],
+        err: b"a.idl:2: fault 2\n",
+        ..REFUSED
+    },
+    Run {
+        name: "a method that stands twice",
+        files: &[("a.idl", METHOD_TWICE)],
+        err: b"a.idl:4: fault 1\n",
+        ..REFUSED
+    },
+    Run {
+        name: "a name of no value",
+        files: &[("a.idl", b"typedef void a;")],
+        err: b"a.idl:1: fault 6\n",
+        ..REFUSED
+    },
+    Run {
+        name: "an absent file",
+        files: &[("a.idl", b"#include \"b.idl\"")],
+        status: 6,
+        err: b"no file b.idl\n",
+        ..REFUSED
+    },
 ];
 
 #[test]
-fn texts_are_compiled_or_refused(rt: HostRuntime) -> Result<(), Fail> {
-    for (name, text, status, out, err) in &TEXTS {
-        let run = Run {
-            name,
-            words: COMPILE,
-            files: &[("a.idl", *text)],
-            status: *status,
-            out,
-            err,
-        };
-        check(&rt, rt.alloc(), &run)?;
-    }
-    Ok(())
-}
-
-#[test]
-fn a_text_is_too_long(rt: HostRuntime) -> Result<(), Fail> {
-    let long = vec![in rt.alloc(); b' '; 1_048_577]?;
-    let run = Run {
-        name: "a long text",
-        words: COMPILE,
-        files: &[("a.idl", long.as_slice())],
-        status: 7,
-        out: b"",
-        err: b"too long a.idl\n",
-    };
-    check(&rt, rt.alloc(), &run)
-}
-
-/// Adds so many parameters.
-fn add_params(alloc: Global, to: &mut String, params: usize) -> Result<(), AllocError> {
-    for p in 0..params {
-        let comma = if p == 0 { "" } else { ", " };
-        to.push_str(format!(in alloc; "{comma}in long p{p}")?.as_str())?;
-    }
-    Ok(())
-}
-
-/// Adds so many methods, each of so many parameters.
-fn add_methods(
-    alloc: Global,
-    to: &mut String,
-    methods: usize,
-    params: usize,
-) -> Result<(), AllocError> {
-    for m in 0..methods {
-        to.push_str(format!(in alloc; " void m{m}(")?.as_str())?;
-        add_params(alloc, to, params)?;
-        to.push_str(");")?;
-    }
-    Ok(())
-}
-
-/// The text of a thin file with so many methods, each of so many parameters.
-fn wide(alloc: Global, methods: usize, params: usize) -> Result<String, AllocError> {
-    let uuid = "00000001-0002-0003-0405-060708090a0b";
-    let mut text = format!(in alloc; "[uuid({uuid})] interface nsIA {{")?;
-    add_methods(alloc, &mut text, methods, params)?;
-    text.push_str(" };")?;
-    Ok(text)
-}
-
-/// So many methods, each of so many parameters, and the status of a run that compiles them.
-const WIDE: [(usize, usize, u8); 4] = [(250, 0, 0), (251, 0, 10), (1, 255, 0), (1, 256, 10)];
-
-#[test]
-fn methods_and_parameters_have_limits(rt: HostRuntime) -> Result<(), Fail> {
-    for (methods, params, wanted) in &WIDE {
-        let text = wide(rt.alloc(), *methods, *params)?;
-        let (status, _, _) = outcome(rt.alloc(), COMPILE, &[("a.idl", text.as_bytes())])?;
-        assert!(rt;
-            status == *wanted,
-            "at {methods} methods of {params} parameters"
-        );
-    }
-    Ok(())
+fn texts_are_compiled_or_refused(rt: HostRuntime) {
+    check_all(&rt, rt.alloc(), &TEXTS);
 }
 
 const INCLUDER: &[u8] = b"#include \"e.idl\"
@@ -244,9 +185,6 @@ const TOGETHER: [Run<'static>; 6] = [
 ];
 
 #[test]
-fn files_are_compiled_together(rt: HostRuntime) -> Result<(), Fail> {
-    for run in &TOGETHER {
-        check(&rt, rt.alloc(), run)?;
-    }
-    Ok(())
+fn files_are_compiled_together(rt: HostRuntime) {
+    check_all(&rt, rt.alloc(), &TOGETHER);
 }

@@ -2,8 +2,9 @@
 
 use crate::compiles::{FIRST_OF_TWO, SECOND_OF_TWO};
 use crate::files::{SUPPORTS, TYPELIB};
-use crate::outcomes::{Run, check, outcome};
-use std::test::Fail;
+use crate::outcomes::{Run, check, check_all, compiled};
+use std::alloc::Global;
+use std::process::Abort;
 
 const DUMP: &[&str] = &["dump", "a.xpt"];
 
@@ -65,24 +66,8 @@ const DUMPS: [Run<'static>; 4] = [
 ];
 
 #[test]
-fn typelibs_are_listed_or_refused(rt: HostRuntime) -> Result<(), Fail> {
-    for run in &DUMPS {
-        check(&rt, rt.alloc(), run)?;
-    }
-    Ok(())
-}
-
-#[test]
-fn a_typelib_that_is_cut_has_a_fault(rt: HostRuntime) -> Result<(), Fail> {
-    let run = Run {
-        name: "a typelib that lacks its last byte",
-        words: DUMP,
-        files: &[("a.xpt", &TYPELIB[..87])],
-        status: 11,
-        out: b"",
-        err: b"a.xpt: typelib fault 4 at 20\n",
-    };
-    check(&rt, rt.alloc(), &run)
+fn typelibs_are_listed_or_refused(rt: HostRuntime) {
+    check_all(&rt, rt.alloc(), &DUMPS);
 }
 
 const INHERITING: &[u8] = b"#include \"nsISupports.idl\"
@@ -119,8 +104,16 @@ slot 0 method f - in:interface(3) in:interface(1)
 interface 3 nsIA 00000002-0000-0000-0000-000000000000 parent 2 slots 1 1 flags -
 ";
 
-/// A file p.idl and another one with its name, and the listing of the typelib of the first.
-const LISTED: [(&str, &[u8], (&str, &[u8]), &[u8]); 3] = [
+/// The name of a row, its file p.idl and another one with its name, and the listing of the typelib
+/// of the first.
+type Row = (
+    &'static str,
+    &'static [u8],
+    (&'static str, &'static [u8]),
+    &'static [u8],
+);
+
+const LISTED: [Row; 3] = [
     (
         "an interface with a parent",
         INHERITING,
@@ -141,20 +134,24 @@ const LISTED: [(&str, &[u8], (&str, &[u8]), &[u8]); 3] = [
     ),
 ];
 
+/// The typelib of a row is listed like this.
+fn check_row(rt: &impl Abort, alloc: Global, row: &Row) {
+    let (name, text, other, listing) = row;
+    let typelib = compiled(rt, alloc, "p.idl", &[("p.idl", *text), *other]);
+    let run = Run {
+        name,
+        words: DUMP,
+        files: &[("a.xpt", typelib.written())],
+        status: 0,
+        out: listing,
+        err: b"",
+    };
+    check(rt, alloc, &run);
+}
+
 #[test]
-fn compiled_typelibs_are_listed(rt: HostRuntime) -> Result<(), Fail> {
-    for (name, text, other, listing) in &LISTED {
-        let files = [("p.idl", *text), *other];
-        let (_, typelib, _) = outcome(rt.alloc(), &["compile", "p.idl"], &files)?;
-        let run = Run {
-            name,
-            words: DUMP,
-            files: &[("a.xpt", typelib.written())],
-            status: 0,
-            out: listing,
-            err: b"",
-        };
-        check(&rt, rt.alloc(), &run)?;
+fn compiled_typelibs_are_listed(rt: HostRuntime) {
+    for row in &LISTED {
+        check_row(&rt, rt.alloc(), row);
     }
-    Ok(())
 }

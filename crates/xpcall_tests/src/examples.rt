@@ -1,8 +1,7 @@
 //! The files of `examples/`, compiled, listed and called as the README shows it.
 
 use crate::files::SUPPORTS;
-use crate::outcomes::{Run, check};
-use std::test::Fail;
+use crate::outcomes::{Run, check_all};
 
 const IDL: &[u8] = b"\
 #include \"nsISupports.idl\"
@@ -89,9 +88,6 @@ const EXAMPLES: [Run<'static>; 3] = [
 ];
 
 #[test]
-fn the_examples_come_to_what_the_readme_shows(rt: HostRuntime) -> Result<(), Fail> {
-    for run in &EXAMPLES {
-        check(&rt, rt.alloc(), run)?;
-    }
-    Ok(())
+fn the_examples_come_to_what_the_readme_shows(rt: HostRuntime) {
+    check_all(&rt, rt.alloc(), &EXAMPLES);
 }

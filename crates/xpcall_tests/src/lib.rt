@@ -19,6 +19,8 @@ mod faults;
 #[cfg(test)]
 mod files;
 #[cfg(test)]
+mod limits;
+#[cfg(test)]
 mod outcomes;
 #[cfg(test)]
 mod transcripts;

@@ -1,10 +1,9 @@
 //! A run, and what came of it.
 
-use machine_bench::{MemBench, NoBench};
-use std::alloc::{AllocError, Global};
+use machine_bench::{Bench, NoBench};
+use std::alloc::Global;
 use std::process::Abort;
-use std::test::Fail;
-use xp_base::{CalmSink, CalmSource, List, MemSink, MemSource, Memory};
+use xp_base::{CalmSink, CalmSource, List, MemSink, MemSource, Memory, Sink, Source};
 use xpcall_run::run;
 
 /// A run: its name, its words and its files, and what is to come of it.
@@ -18,16 +17,14 @@ pub struct Run<'a> {
     pub err: &'a [u8],
 }
 
-/// A status, an output and an error output.
-pub type Outcome<'a> = (u8, &'a [u8], &'a [u8]);
-
 /// The words of a command line.
-fn owned(alloc: Global, words: &[&str]) -> Result<Vec<String>, AllocError> {
+fn owned(rt: &impl Abort, alloc: Global, words: &[&str]) -> Vec<String> {
     let mut list = Vec::new(alloc);
     for word in words {
-        list.push(String::from_str(alloc, *word)?)?;
+        let word = String::from_str(alloc, *word).expect(rt, "a word");
+        list.push(word).expect(rt, "words");
     }
-    Ok(list)
+    list
 }
 
 /// A source of these files.
@@ -39,63 +36,63 @@ fn source_of(alloc: Global, files: &[(&str, &[u8])]) -> Result<CalmSource, Memor
     Ok(source)
 }
 
-/// The status of a run of these words over a source, the output and the error output.
-pub fn outcome_of(
+/// The status of a run. It has no clause, so that what calls it has none of all that `run` promises
+/// in its own proof.
+fn status_of<S: Source, O: Sink, B: Bench>(
     alloc: Global,
     words: &[String],
-    source: &mut CalmSource,
+    files: &mut S,
+    out: &mut O,
+    err: &mut O,
+    bench: &mut B,
+) -> u8 {
+    run(alloc, words, files, out, err, bench)
+}
+
+/// The status of a run of these words over these files, before a bench, with the output and the
+/// error output.
+pub fn outcome<B: Bench>(
+    rt: &impl Abort,
+    alloc: Global,
+    words: &[&str],
+    files: &[(&str, &[u8])],
+    bench: &mut B,
 ) -> (u8, CalmSink, CalmSink) {
+    let words = owned(rt, alloc, words);
+    let mut source = source_of(alloc, files).expect(rt, "a source");
     let mut out = CalmSink::new(alloc);
     let mut err = CalmSink::new(alloc);
-    let mut bench = NoBench::new();
-    let status = run(alloc, words, source, &mut out, &mut err, &mut bench);
+    let words = words.as_slice();
+    let status = status_of(alloc, words, &mut source, &mut out, &mut err, bench);
     (status, out, err)
 }
 
-/// The status of a run of these words over these files, the output and the error output.
-pub fn outcome(
-    alloc: Global,
-    words: &[&str],
-    files: &[(&str, &[u8])],
-) -> Result<(u8, CalmSink, CalmSink), Fail> {
-    let words = owned(alloc, words)?;
-    let mut source = source_of(alloc, files)?;
-    Ok(outcome_of(alloc, words.as_slice(), &mut source))
-}
-
-/// The status of a run of these words over these files, and a bench that saw its calls.
-pub fn seen(
-    alloc: Global,
-    words: &[&str],
-    files: &[(&str, &[u8])],
-) -> Result<(u8, MemBench), Fail> {
-    let words = owned(alloc, words)?;
-    let mut source = source_of(alloc, files)?;
-    let mut out = CalmSink::new(alloc);
-    let mut err = CalmSink::new(alloc);
-    let mut bench = MemBench::new(alloc);
-    let status = run(
-        alloc,
-        words.as_slice(),
-        &mut source,
-        &mut out,
-        &mut err,
-        &mut bench,
-    );
-    Ok((status, bench))
-}
-
-/// What came of the run of this name is what was to come of it.
-pub fn same(rt: &impl Abort, name: &str, found: Outcome<'_>, wanted: Outcome<'_>) {
-    assert_eq!(rt; found, wanted, "at {name}");
+/// What came of a run is what was to come of it.
+fn same(rt: &impl Abort, wanted: &Run<'_>, status: u8, out: &[u8], err: &[u8]) {
+    let found = (status, out, err);
+    let wanted_of_it = (wanted.status, wanted.out, wanted.err);
+    assert_eq!(rt; found, wanted_of_it, "at {}", wanted.name);
 }
 
 /// The run comes to what it is to come to.
-pub fn check(rt: &impl Abort, alloc: Global, run: &Run<'_>) -> Result<(), Fail> {
-    let (status, out, err) = outcome(alloc, run.words, run.files)?;
-    let found = (status, out.written(), err.written());
-    same(rt, run.name, found, (run.status, run.out, run.err));
-    Ok(())
+pub fn check(rt: &impl Abort, alloc: Global, run: &Run<'_>) {
+    let (status, out, err) = outcome(rt, alloc, run.words, run.files, &mut NoBench::new());
+    same(rt, run, status, out.written(), err.written());
+}
+
+/// Each run comes to what it is to come to.
+pub fn check_all(rt: &impl Abort, alloc: Global, runs: &[Run<'_>]) {
+    for run in runs {
+        check(rt, alloc, run);
+    }
+}
+
+/// The typelib of an IDL file among these files.
+pub fn compiled(rt: &impl Abort, alloc: Global, root: &str, files: &[(&str, &[u8])]) -> CalmSink {
+    let words = ["compile", root];
+    let (status, typelib, _) = outcome(rt, alloc, &words, files, &mut NoBench::new());
+    assert!(rt; status == 0, "the typelib of {root}");
+    typelib
 }
 
 /// Which calls fail, counted from 1: a fetch, a put of the output, a put of the error output.
@@ -103,54 +100,37 @@ pub fn check(rt: &impl Abort, alloc: Global, run: &Run<'_>) -> Result<(), Fail> 
 pub type Failing = [u64; 3];
 
 /// The numbers of the calls that are to fail: one, or none for 0.
-fn failing(alloc: Global, call: u64) -> Result<List<u64>, Memory> {
+fn failing(rt: &impl Abort, alloc: Global, call: u64) -> List<u64> {
     let mut fails = List::new(alloc);
     if call > 0 {
-        fails.push(call)?;
+        fails.push(call).expect(rt, "a number");
     }
-    Ok(fails)
+    fails
 }
 
-/// A source of these files, the fetch of this number of which fails.
-fn failing_source(alloc: Global, files: &[(&str, &[u8])], fetch: u64) -> Result<MemSource, Memory> {
-    let mut source = MemSource::new(alloc, failing(alloc, fetch)?);
+/// A source of these files, some fetches of which fail.
+fn failing_source(
+    alloc: Global,
+    files: &[(&str, &[u8])],
+    fails: List<u64>,
+) -> Result<MemSource, Memory> {
+    let mut source = MemSource::new(alloc, fails);
     for (name, bytes) in files {
         source.add(name.as_bytes(), *bytes)?;
     }
     Ok(source)
 }
 
-/// A sink that takes one byte a put, the put of this number of which fails.
-fn failing_sink(alloc: Global, put: u64) -> Result<MemSink, Memory> {
-    Ok(MemSink::new(alloc, 1, failing(alloc, put)?))
-}
-
 /// The same run where calls fail, and each put takes one byte.
-pub fn check_failing(
-    rt: &impl Abort,
-    alloc: Global,
-    run_of: &Run<'_>,
-    fails: Failing,
-) -> Result<(), Fail> {
-    let words = owned(alloc, run_of.words)?;
-    let mut source = failing_source(alloc, run_of.files, fails[0])?;
-    let mut out = failing_sink(alloc, fails[1])?;
-    let mut err = failing_sink(alloc, fails[2])?;
+pub fn check_failing(rt: &impl Abort, alloc: Global, run_of: &Run<'_>, fails: Failing) {
+    let [fetch, put, report] = fails;
+    let words = owned(rt, alloc, run_of.words);
+    let fetches = failing(rt, alloc, fetch);
+    let mut source = failing_source(alloc, run_of.files, fetches).expect(rt, "a source");
+    let mut out = MemSink::new(alloc, 1, failing(rt, alloc, put));
+    let mut err = MemSink::new(alloc, 1, failing(rt, alloc, report));
     let mut bench = NoBench::new();
-    let status = run(
-        alloc,
-        words.as_slice(),
-        &mut source,
-        &mut out,
-        &mut err,
-        &mut bench,
-    );
-    let found = (status, out.written(), err.written());
-    same(
-        rt,
-        run_of.name,
-        found,
-        (run_of.status, run_of.out, run_of.err),
-    );
-    Ok(())
+    let words = words.as_slice();
+    let status = status_of(alloc, words, &mut source, &mut out, &mut err, &mut bench);
+    same(rt, run_of, status, out.written(), err.written());
 }
