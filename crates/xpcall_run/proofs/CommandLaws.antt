@@ -5,10 +5,11 @@ use Rattle.std.specs.Prelude.{IfSome, if◌then◌else◌, nat_le}
 use Rattle.std.specs.List.{list_all}
 use Rattle.xp_base.specs.Files.{Files}
 use Rattle.xpcall_run.specs.declared.commands.Command.{Command}
-use Rattle.xpcall_run.specs.declared.commands.Command.TheVariants.{Compile, Dump, Call}
+use Rattle.xpcall_run.specs.declared.commands.Command.TheVariants.{Compile, Dump, Call, Big}
 use Rattle.xpcall_run.specs.Commands.{IsFit, are_roots, command_work, compile_of, is_file_name, work_of}
-use Rattle.xpcall_run.specs.Headline.{IsKnown}
+use Rattle.xpcall_run.specs.Headline.{IsKnown, IsTold}
 use Rattle.xpcall_run.specs.Works.{Written, Denied}
+use Rattle.xpcall_run.proofs.BigLaws.{big_settled}
 use Rattle.xpcall_run.proofs.CallLaws.{call_single}
 use Rattle.xpcall_run.proofs.TypelibLaws.{dump_single}
 use Rattle.xpcall_run.proofs.CompileLaws.{compile_single}
@@ -18,18 +19,25 @@ command_single : (c : Command) → Single (command_work c)
 command_single (Compile roots) = compile_single roots
 command_single (Dump m) = dump_single m
 command_single (Call conv m n) = call_single conv m n
+command_single (Big last) = λ told. big_settled last (Some told)
 
 usage_settled : (files : Option Files) → Settled (work_of None) files
 usage_settled files (Written a) p h k = absurd h
 usage_settled files (Denied r) (Written b) h k = absurd k
 usage_settled files (Denied r) (Denied s) h k = ap Denied (h ∙ sym k)
 
+told_settled : (c : Command) (files : Option Files) → IsTold files → Settled (command_work c) files
+told_settled c files told =
+    let P : Option Files → Type 0 = Settled (command_work c) in
+    subst P (sym told.1) (command_single c told.0)
+
 pub known_settled : (command : Option Command) (files : Option Files) → IsKnown command files
     → Settled (work_of command) files
 known_settled None files known = usage_settled files
-known_settled (Some c) files known =
-    let P : Option Files → Type 0 = Settled (command_work c) in
-    subst P (sym known.1) (command_single c known.0)
+known_settled (Some (Compile roots)) files known = told_settled (Compile roots) files known
+known_settled (Some (Dump m)) files known = told_settled (Dump m) files known
+known_settled (Some (Call conv m n)) files known = told_settled (Call conv m n) files known
+known_settled (Some (Big last)) files known = big_settled last files
 
 -- ---- few enough roots
 

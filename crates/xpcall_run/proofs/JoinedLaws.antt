@@ -8,7 +8,7 @@ use Rattle.prototype_lowering.specs.StaticTable.{static_table}
 use Rattle.prototype_lowering.proofs.TableLaw.{table_law}
 use Rattle.include_closure.specs.Closure.{IsClosure}
 use Rattle.xpcall_run.specs.declared.commands.Command.{Command}
-use Rattle.xpcall_run.specs.declared.commands.Command.TheVariants.{Call}
+use Rattle.xpcall_run.specs.declared.commands.Command.TheVariants.{Big, Call, Compile, Dump}
 use Rattle.xpcall_run.specs.Commands.{work_of}
 use Rattle.xpcall_run.specs.CallWork.{calls_given}
 use Rattle.xpcall_run.specs.CompileWork.{library_in, library_work}
@@ -21,7 +21,10 @@ use Rattle.xpcall_run.proofs.ClosureLaws.{closes_comes}
 known : (command : Option Command) (files : Option Files) (told : Files) → files ≡ Some told
     → IsKnown command files
 known None files told tells = tt
-known (Some c) files told tells = (told, tells)
+known (Some (Compile roots)) files told tells = (told, tells)
+known (Some (Dump typelib)) files told tells = (told, tells)
+known (Some (Call conv typelib script)) files told tells = (told, tells)
+known (Some (Big last)) files told tells = tt
 
 pub compile_known : (c : CompileOf) (command : Option Command) (files : Option Files)
     → IsCompileOf c command files → IsKnown command files

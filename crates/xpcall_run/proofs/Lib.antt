@@ -1,3 +1,4 @@
+pub mod BigLaws
 pub mod CallLaws
 pub mod ClosureLaws
 pub mod CommandLaws

@@ -1,11 +1,13 @@
 -- Which words are a command, and which; and the work that each command is.
-use Rattle.std.specs.Prelude.{◌≡◌, ◌≤◌, ℕ, Bool, ◌&&◌, nat_le, List, [], ◌∷◌, length, map, Option, Some, None, option_and_then, codes, if◌then◌else◌, String, string_bytes}
+use Rattle.std.specs.Prelude.{◌≡◌, ◌≤◌, ℕ, Bool, ◌&&◌, nat_le, List, [], ◌∷◌, length, map, Option, Some, None, option_and_then, option_map, codes, if◌then◌else◌, String, string_bytes}
 use Rattle.std.specs.List.{list_all}
 use Rattle.std.specs.Str.{bytes_eq}
+use Rattle.big_texts.specs.Numbers.{big_number}
 use Rattle.call_scripts.specs.Reading.{conv_of}
 use Rattle.xpcall_run.specs.declared.commands.Command.{Command}
-use Rattle.xpcall_run.specs.declared.commands.Command.TheVariants.{Compile, Dump, Call}
+use Rattle.xpcall_run.specs.declared.commands.Command.TheVariants.{Compile, Dump, Call, Big}
 use Rattle.xpcall_run.specs.declared.failures.Refusal.TheVariants.{Usage}
+use Rattle.xpcall_run.specs.BigWork.{big_work}
 use Rattle.xpcall_run.specs.CallWork.{call_work}
 use Rattle.xpcall_run.specs.CompileWork.{compile_work}
 use Rattle.xpcall_run.specs.TypelibWork.{dump_work}
@@ -40,6 +42,11 @@ call_of (word ∷ typelib ∷ script ∷ []) =
     (conv_of word)
 call_of _ = None
 
+-- behind `big`, a number from 1 to 249, in decimal with no leading zero
+abbrev pub big_of : List (List ℕ) → Option Command
+big_of (word ∷ []) = option_map Big (big_number word)
+big_of _ = None
+
 -- the command that the words are
 abbrev pub command_of : List (List ℕ) → Option Command
 command_of [] = None
@@ -47,6 +54,7 @@ command_of (verb ∷ words) =
     if bytes_eq verb (codes "compile") then compile_of words
     else if bytes_eq verb (codes "dump") then dump_of words
     else if bytes_eq verb (codes "call") then call_of words
+    else if bytes_eq verb (codes "big") then big_of words
     else None
 
 -- the command that the words of a command line are
@@ -58,6 +66,7 @@ abbrev pub IsFit : Command → Type 0
 IsFit (Compile roots) = length roots ≤ 65535
 IsFit (Dump typelib) = Unit {0}
 IsFit (Call conv typelib script) = Unit {0}
+IsFit (Big last) = Unit {0}
 
 -- ---- the works
 
@@ -65,6 +74,7 @@ abbrev pub command_work : Command → Work
 command_work (Compile roots) = compile_work roots
 command_work (Dump typelib) = dump_work typelib
 command_work (Call conv typelib script) = call_work conv typelib script
+command_work (Big last) = big_work last
 
 -- words that are no command are refused, and no file is asked for
 abbrev pub work_of : Option Command → Work

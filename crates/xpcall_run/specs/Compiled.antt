@@ -3,7 +3,7 @@ use Rattle.std.specs.Prelude.{ℕ, List, Option, Some, None}
 use Rattle.xp_base.specs.Files.{Files}
 use Rattle.idl_grammar.specs.declared.tree.ClosedFile.{ClosedFile}
 use Rattle.xpcall_run.specs.declared.commands.Command.{Command}
-use Rattle.xpcall_run.specs.declared.commands.Command.TheVariants.{Compile, Dump, Call}
+use Rattle.xpcall_run.specs.declared.commands.Command.TheVariants.{Compile, Dump, Call, Big}
 use Rattle.xpcall_run.specs.ClosureWork.{CanClose}
 use Rattle.xpcall_run.specs.CompileWork.{StandsFor, WritesLibrary}
 use Rattle.xpcall_run.specs.Sides.{Side, Got}
@@ -27,6 +27,7 @@ abbrev pub IsCompiled : Command → Option Files → (out : Side) → Type 0
 IsCompiled (Compile roots) files out = HasCompiled files roots out
 IsCompiled (Dump typelib) files out = Unit {0}
 IsCompiled (Call conv typelib script) files out = Unit {0}
+IsCompiled (Big last) files out = Unit {0}
 
 abbrev pub IsCompiledBy : Option Command → Option Files → (out : Side) → Type 0
 IsCompiledBy None files out = Unit {0}

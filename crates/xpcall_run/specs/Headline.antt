@@ -2,7 +2,7 @@
 use Rattle.std.specs.Prelude.{◌≡◌, ◌≢◌, ◌⊎◌, ℕ, [], ◌∷◌, Contains, Option, Some, None}
 use Rattle.xp_base.specs.Files.{Files}
 use Rattle.xpcall_run.specs.declared.commands.Command.{Command}
-use Rattle.xpcall_run.specs.declared.commands.Command.TheVariants.{Call}
+use Rattle.xpcall_run.specs.declared.commands.Command.TheVariants.{Big, Call, Compile, Dump}
 use Rattle.xpcall_run.specs.declared.failures.Failure.{Failure}
 use Rattle.xpcall_run.specs.declared.failures.Failure.TheVariants.{CannotWrite}
 use Rattle.xpcall_run.specs.declared.failures.Refusal.{Refusal}
@@ -18,10 +18,22 @@ use Rattle.xpcall_run.specs.Works.{Outcome, Work}
 abbrev pub IsTold : Option Files → Type 0
 IsTold files = (told : Files) × (files ≡ Some told)
 
--- What the command comes to is determined: no command comes to one thing over any source.
+-- What the command comes to is determined: no command, and `big`, come to one thing over any
+-- source.
 abbrev pub IsKnown : Option Command → Option Files → Type 0
 IsKnown None files = Unit {0}
-IsKnown (Some command) files = IsTold files
+IsKnown (Some (Compile roots)) files = IsTold files
+IsKnown (Some (Dump typelib)) files = IsTold files
+IsKnown (Some (Call conv typelib script)) files = IsTold files
+IsKnown (Some (Big last)) files = Unit {0}
+
+-- the words are no command, or one that asks for no file
+abbrev pub AsksNothing : Option Command → Type 0
+AsksNothing None = Unit {0}
+AsksNothing (Some (Compile roots)) = ⊥
+AsksNothing (Some (Dump typelib)) = ⊥
+AsksNothing (Some (Call conv typelib script)) = ⊥
+AsksNothing (Some (Big last)) = Unit {0}
 
 -- the words are no command, or one that calls nothing
 abbrev pub CallsNothing : Option Command → Type 0

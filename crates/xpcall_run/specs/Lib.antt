@@ -1,3 +1,4 @@
+pub mod BigWork
 pub mod CallWork
 pub mod ClosureWork
 pub mod Commands

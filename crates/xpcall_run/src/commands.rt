@@ -6,6 +6,7 @@ ghost use Rattle.std.specs.String.{string_bytes};
 ghost use Rattle.xpcall_run.specs.Commands as specs;
 ghost use Rattle.xpcall_run.specs.Commands.{IsFit, command_of};
 
+use big_texts::big_number;
 use call_model::Conv;
 use call_scripts::convention;
 use std::alloc::Global;
@@ -31,6 +32,8 @@ pub enum Command {
         typelib: Bytes,
         script: Bytes,
     },
+    /// Compile and call files of its own, whose last interface has this number, 1 to 249.
+    Big(u8),
 }
 
 /// The command that `words` are, the program's name not among them; None where they are none.
@@ -45,6 +48,7 @@ pub fn read_command(alloc: Global, words: &[String]) -> Result<Option<Command>, 
         "compile" => compile_command(alloc, names),
         "dump" => dump_command(alloc, names),
         "call" => call_command(alloc, names),
+        "big" => Ok(big_command(names)),
         _ => Ok(None),
     }
 }
@@ -96,6 +100,17 @@ fn call_command(alloc: Global, words: &[String]) -> Result<Option<Command>, Memo
         typelib,
         script,
     }))
+}
+
+/// The command `big` with the words behind it; None where they are not one number that fits.
+fn big_command(words: &[String]) -> Option<Command>
+    ensures { result ≡ specs.big_of (map string_bytes words.now) }
+{
+    let [word] = words else {
+        return None;
+    };
+    let last = big_number(word.as_bytes())?;
+    Some(Command::Big(last))
 }
 
 /// Whether words can be the names of the files that are compiled together.

@@ -2,6 +2,7 @@
 //! sinks.
 #![tactic(auto)]
 
+mod bigs;
 mod calls;
 mod commands;
 mod compiles;

@@ -4,12 +4,13 @@ ghost use Rattle.std.specs.Prelude.{◌≡◌, ◌⊎◌, List, ℕ, None, Some,
 ghost use Rattle.xpcall_run.specs.Commands.{IsFit, asked, command_work, work_of};
 ghost use Rattle.xpcall_run.specs.Compiled.{IsCompiled, IsCompiledBy};
 ghost use Rattle.xpcall_run.specs.Endings.{Ends, HasWritten, IsFirst};
-ghost use Rattle.xpcall_run.specs.Headline.{CallsNothing, ComesTo, Denies, Gives, IsCutShort, IsKnown, IsPlain, IsReported, IsStatus, IsUnwritten, IsUsage, NoneFailed};
+ghost use Rattle.xpcall_run.specs.Headline.{AsksNothing, CallsNothing, ComesTo, Denies, Gives, IsCutShort, IsKnown, IsPlain, IsReported, IsStatus, IsUnwritten, IsUsage, NoneFailed};
 ghost use Rattle.xpcall_run.specs.Joined.{CallOf, CompileOf, IsCallOf, IsCompileOf, static_given, typelib_given};
 ghost use Rattle.xpcall_run.specs.Sides.{Given, GotNothing, output_of, reads_of, shown_of, side_of};
 ghost use Rattle.xpcall_run.specs.Works.{Denied, Written};
 ghost use Rattle.xpcall_run.specs.declared.failures.Refusal.{Refusal as Refusals};
 
+use crate::bigs::big;
 use crate::calls::call;
 use crate::commands::{Command, read_command};
 use crate::compiles::compile;
@@ -39,7 +40,7 @@ fn work<S: Source, O: Sink, B: Bench>(
         (side_of O.written O.faults out.old out.new)) }
     ensures untouched { CallsNothing (asked words.now)
         → B.seen bench.new ≡ B.seen bench.old }
-    ensures unasked { asked words.now ≡ None → files.new ≡ files.old }
+    ensures unasked { AsksNothing (asked words.now) → files.new ≡ files.old }
     ensures same_files { S.files files.new ≡ S.files files.old }
 {
     let Some(command) = read_command(alloc, words)? else {
@@ -68,6 +69,7 @@ fn obey<S: Source, O: Sink, B: Bench>(
         (side_of O.written O.faults out.old out.new)) }
     ensures untouched { CallsNothing (Some command.now)
         → B.seen bench.new ≡ B.seen bench.old }
+    ensures unasked { AsksNothing (Some command.now) → files.new ≡ files.old }
     ensures same_files { S.files files.new ≡ S.files files.old }
 {
     match command {
@@ -78,6 +80,7 @@ fn obey<S: Source, O: Sink, B: Bench>(
             typelib,
             script,
         } => call(alloc, *conv, typelib, script, files, out, bench),
+        Command::Big(last) => big(alloc, *last, out),
     }
 }
 
@@ -99,7 +102,7 @@ fn work_and_report<S: Source, O: Sink, E: Sink, B: Bench>(
         (side_of O.written O.faults out.old out.new) }
     ensures untouched { CallsNothing (asked words.now)
         → B.seen bench.new ≡ B.seen bench.old }
-    ensures unasked { asked words.now ≡ None → files.new ≡ files.old }
+    ensures unasked { AsksNothing (asked words.now) → files.new ≡ files.old }
     ensures same_files { S.files files.new ≡ S.files files.old }
 {
     match work(alloc, words, files, out, bench) {
@@ -159,13 +162,14 @@ pub fn run<S: Source, O: Sink, E: Sink, B: Bench>(
     ensures compiled { result ≡ 0 → IsCompiledBy (asked words.now) (S.files files.old)
         (side_of O.written O.faults out.old out.new) }
 
-    // Words that are no command are refused whatever the source is, and it is not asked.
+    // Words that are no command are refused whatever the source is; they, and `big`, ask it for
+    // nothing.
     ensures usage { asked words.now ≡ None
         → IsUsage result
         (output_of (side_of O.written O.faults out.old out.new)
         (shown_of B.seen bench.old bench.new))
         (side_of E.written E.faults err.old err.new) }
-    ensures unasked { asked words.now ≡ None → files.new ≡ files.old }
+    ensures unasked { AsksNothing (asked words.now) → files.new ≡ files.old }
 
     // Each status has its cause.
     ensures statuses { IsStatus result }

@@ -5,6 +5,8 @@
 #[cfg(test)]
 mod benches;
 #[cfg(test)]
+mod bigs;
+#[cfg(test)]
 mod calls;
 #[cfg(test)]
 mod commands;
