@@ -1,5 +1,5 @@
--- The IDL file of `big N`: the interfaces 0 to N, each the child of the one before it, and each with
--- one method, which has from none to eleven parameters.
+-- The IDL file of `big N`: the interfaces 0 to N, each the child of the one before it. Each has one
+-- method, with none to eleven parameters.
 use Rattle.std.specs.Prelude.{ℕ, zero, suc, ◌+◌, ◌-◌, ◌%◌, ◌==◌, List, [], ◌∷◌, ◌++◌, get_or, codes, if◌then◌else◌}
 use Rattle.xp_base.specs.Digits.{hex_digits_fixed}
 use Rattle.big_texts.specs.Pieces.{pieces, line, decimal}

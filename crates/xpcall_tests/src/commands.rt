@@ -4,7 +4,8 @@ use crate::files::{CALL, COMPILE, TYPELIB};
 use crate::outcomes::{Run, check_all};
 
 /// What a run answers to words that are no command.
-pub const USAGE: &[u8] = b"usage: xpcall compile FILE... | dump XPT | call CONV XPT SCRIPT | big N\n";
+pub const USAGE: &[u8] =
+    b"usage: xpcall compile FILE... | dump XPT | call CONV XPT SCRIPT | big N\n";
 
 /// A run of words that are no command.
 const REFUSED: Run<'static> = Run {

@@ -1,52 +1,52 @@
 //! How long files may be, how short a typelib, and how many methods and parameters there may be.
 
 use crate::files::{CALL, COMPILE, TYPELIB};
-use crate::outcomes::{Run, check_all, outcome};
+use crate::outcomes::{Run, check_files, outcome};
 use machine_bench::NoBench;
 use std::alloc::Global;
 use std::process::Abort;
 use xp_base::{Bytes, Memory, hex_text};
+
+const LONG_TEXT: Run<'static> = Run {
+    name: "a long text",
+    words: COMPILE,
+    files: &[],
+    status: 7,
+    out: b"",
+    err: b"too long a.idl\n",
+};
+
+const LONG_SCRIPT: Run<'static> = Run {
+    name: "a long script",
+    words: CALL,
+    err: b"too long s.txt\n",
+    ..LONG_TEXT
+};
+
+const CUT_CALLED: Run<'static> = Run {
+    name: "a script on a typelib that lacks its last byte",
+    words: CALL,
+    status: 11,
+    err: b"a.xpt: typelib fault 4 at 20\n",
+    ..LONG_TEXT
+};
+
+const CUT_LISTED: Run<'static> = Run {
+    name: "a listing of a typelib that lacks its last byte",
+    words: &["dump", "a.xpt"],
+    ..CUT_CALLED
+};
 
 #[test]
 fn files_are_too_long_or_cut(rt: HostRuntime) {
     let lines = vec![in rt.alloc(); b'\n'; 1_048_577].expect(&rt, "lines");
     let long = lines.as_slice();
     let cut = &TYPELIB[..87];
-    let runs = [
-        Run {
-            name: "a long text",
-            words: COMPILE,
-            files: &[("a.idl", long)],
-            status: 7,
-            out: b"",
-            err: b"too long a.idl\n",
-        },
-        Run {
-            name: "a long script",
-            words: CALL,
-            files: &[("a.xpt", cut), ("s.txt", long)],
-            status: 7,
-            out: b"",
-            err: b"too long s.txt\n",
-        },
-        Run {
-            name: "a script on a typelib that lacks its last byte",
-            words: CALL,
-            files: &[("a.xpt", cut), ("s.txt", b"object o nsIA\njump\n")],
-            status: 11,
-            out: b"",
-            err: b"a.xpt: typelib fault 4 at 20\n",
-        },
-        Run {
-            name: "a listing of a typelib that lacks its last byte",
-            words: &["dump", "a.xpt"],
-            files: &[("a.xpt", cut)],
-            status: 11,
-            out: b"",
-            err: b"a.xpt: typelib fault 4 at 20\n",
-        },
-    ];
-    check_all(&rt, rt.alloc(), &runs);
+    let script = b"object o nsIA\njump\n";
+    check_files(&rt, rt.alloc(), &LONG_TEXT, cut, "a.idl", long);
+    check_files(&rt, rt.alloc(), &LONG_SCRIPT, cut, "s.txt", long);
+    check_files(&rt, rt.alloc(), &CUT_CALLED, cut, "s.txt", script);
+    check_files(&rt, rt.alloc(), &CUT_LISTED, cut, "s.txt", script);
 }
 
 /// How a text begins, what it has so many times, before and behind the number of the time, and how

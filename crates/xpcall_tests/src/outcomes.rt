@@ -49,8 +49,24 @@ fn status_of<S: Source, O: Sink, B: Bench>(
     run(alloc, words, files, out, err, bench)
 }
 
-/// The status of a run of these words over these files, before a bench, with the output and the
-/// error output.
+/// The status of a run of these words over a source, before a bench, with the output and the error
+/// output.
+fn outcome_over<B: Bench>(
+    rt: &impl Abort,
+    alloc: Global,
+    words: &[&str],
+    source: &mut CalmSource,
+    bench: &mut B,
+) -> (u8, CalmSink, CalmSink) {
+    let words = owned(rt, alloc, words);
+    let mut out = CalmSink::new(alloc);
+    let mut err = CalmSink::new(alloc);
+    let words = words.as_slice();
+    let status = status_of(alloc, words, source, &mut out, &mut err, bench);
+    (status, out, err)
+}
+
+/// The same over these files.
 pub fn outcome<B: Bench>(
     rt: &impl Abort,
     alloc: Global,
@@ -58,13 +74,8 @@ pub fn outcome<B: Bench>(
     files: &[(&str, &[u8])],
     bench: &mut B,
 ) -> (u8, CalmSink, CalmSink) {
-    let words = owned(rt, alloc, words);
     let mut source = source_of(alloc, files).expect(rt, "a source");
-    let mut out = CalmSink::new(alloc);
-    let mut err = CalmSink::new(alloc);
-    let words = words.as_slice();
-    let status = status_of(alloc, words, &mut source, &mut out, &mut err, bench);
-    (status, out, err)
+    outcome_over(rt, alloc, words, &mut source, bench)
 }
 
 /// What came of a run is what was to come of it.
@@ -77,6 +88,22 @@ fn same(rt: &impl Abort, wanted: &Run<'_>, status: u8, out: &[u8], err: &[u8]) {
 /// The run comes to what it is to come to.
 pub fn check(rt: &impl Abort, alloc: Global, run: &Run<'_>) {
     let (status, out, err) = outcome(rt, alloc, run.words, run.files, &mut NoBench::new());
+    same(rt, run, status, out.written(), err.written());
+}
+
+/// The run comes to what it is to come to, over a typelib and another file beside its own.
+pub fn check_files(
+    rt: &impl Abort,
+    alloc: Global,
+    run: &Run<'_>,
+    typelib: &[u8],
+    name: &str,
+    bytes: &[u8],
+) {
+    let mut source = source_of(alloc, run.files).expect(rt, "a source");
+    source.add(b"a.xpt", typelib).expect(rt, "a typelib");
+    source.add(name.as_bytes(), bytes).expect(rt, "a file");
+    let (status, out, err) = outcome_over(rt, alloc, run.words, &mut source, &mut NoBench::new());
     same(rt, run, status, out.written(), err.written());
 }
 

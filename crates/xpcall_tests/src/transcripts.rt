@@ -8,7 +8,7 @@ mod refusals;
 mod replies;
 
 use crate::files::SUPPORTS;
-use crate::outcomes::{Run, check, compiled};
+use crate::outcomes::{Run, check_files, compiled};
 use std::alloc::Global;
 use std::process::Abort;
 
@@ -28,12 +28,12 @@ fn play(rt: &impl Abort, alloc: Global, played: &Played) {
     let run = Run {
         name: played.name,
         words: &["call", played.convention, "a.xpt", "s.txt"],
-        files: &[("a.xpt", typelib.written()), ("s.txt", played.script)],
+        files: &[],
         status: 0,
         out: played.transcript,
         err: b"",
     };
-    check(rt, alloc, &run);
+    check_files(rt, alloc, &run, typelib.written(), "s.txt", played.script);
 }
 
 /// Each script comes to its transcript.
