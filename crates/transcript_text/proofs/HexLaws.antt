@@ -22,5 +22,9 @@ unfolding encode_with
 two_digits_each [] are = refl
 two_digits_each (b ∷ bytes) are =
     let fits : b < 256 = are 0 in
-    rw (digit (b / 16) (omega (arith, fits)), digit (b % 16) (omega arith), sym (hex_byte b fits),
-    two_digits_each bytes (λ k. are (suc k))) refl
+    rw (
+      digit (b / 16) (omega (arith, fits)),
+      digit (b % 16) (omega arith),
+      sym (hex_byte b fits),
+      two_digits_each bytes (λ k. are (suc k)),
+    ) refl
