@@ -1,4 +1,5 @@
-//! The slots, libraries and tables of the interfaces that XPIDL texts declare.
+//! The scopes, slots, libraries and tables of the interfaces that XPIDL texts declare, and their
+//! first faults.
 #![tactic(auto)]
 
 #[cfg(test)]
@@ -9,6 +10,8 @@ mod libraries;
 mod limits;
 #[cfg(test)]
 mod long_texts;
+#[cfg(test)]
+mod names;
 #[cfg(test)]
 mod prototypes;
 #[cfg(test)]

@@ -9,7 +9,6 @@ use idl_names::Scope;
 use prototype_lowering::{LowerError, lower};
 use std::alloc::Global;
 use std::process::Abort;
-use std::test::Fail;
 use vtable_layout::{LayoutError, Slots, layout};
 
 /// What becomes of a text: its library, or what there is too much of, with the numbers of the
@@ -19,26 +18,26 @@ type Outcome = (&'static str, u32, u32);
 const LIBRARY: Outcome = ("library", 0, 0);
 
 /// What becomes of a scope with these slots.
-fn outcome_of_slots(alloc: Global, scope: &Scope, slots: &Slots) -> Result<Outcome, LowerError>
+fn outcome_of_slots(alloc: Global, scope: &Scope, slots: &Slots) -> Outcome
     requires accepted { IsAcceptedScope scope.now }
     requires slots { AreSlotsOf scope.now.ifaces slots.now }
 {
     match lower(alloc, scope, slots) {
-        Ok(_) => Ok(LIBRARY),
-        Err(LowerError::Args { iface, member }) => Ok(("parameters", iface, member)),
-        Err(LowerError::Interfaces) => Ok(("interfaces", 0, 0)),
-        Err(LowerError::Items) => Ok(("items", 0, 0)),
-        Err(LowerError::Memory) => Err(LowerError::Memory),
+        Ok(_) => LIBRARY,
+        Err(LowerError::Args { iface, member }) => ("parameters", iface, member),
+        Err(LowerError::Interfaces) => ("interfaces", 0, 0),
+        Err(LowerError::Items) => ("items", 0, 0),
+        Err(LowerError::Memory) => ("memory", 0, 0),
     }
 }
 
 /// What becomes of a text.
-fn outcome_of(rt: &impl Abort, alloc: Global, text: &[u8]) -> Result<Outcome, Fail> {
-    let scope = scope_of(rt, alloc, text)?;
+fn outcome_of(rt: &impl Abort, alloc: Global, text: &[u8]) -> Outcome {
+    let scope = scope_of(rt, alloc, text);
     match layout(alloc, &scope) {
-        Ok(slots) => Ok(outcome_of_slots(alloc, &scope, &slots)?),
-        Err(LayoutError::TooMany { iface }) => Ok(("slots or parents", iface, 0)),
-        Err(LayoutError::Memory) => Err(LayoutError::Memory)?,
+        Ok(slots) => outcome_of_slots(alloc, &scope, &slots),
+        Err(LayoutError::TooMany { iface }) => ("slots or parents", iface, 0),
+        Err(LayoutError::Memory) => ("memory", 0, 0),
     }
 }
 
@@ -166,25 +165,28 @@ const ROWS: [Row; 10] = [
     },
 ];
 
-#[test]
-fn libraries_have_limits(rt: HostRuntime) -> Result<(), Fail> {
-    for row in &ROWS {
-        let text = written(rt.alloc(), &row.text)?;
-        let outcome = outcome_of(&rt, rt.alloc(), text.as_slice())?;
+/// Each text becomes what is wanted of it.
+fn check_rows(rt: &impl Abort, alloc: Global, rows: &[Row]) {
+    for row in rows {
+        let text = written(alloc, &row.text).expect(rt, row.name);
+        let outcome = outcome_of(rt, alloc, text.as_slice());
         assert!(rt; outcome == row.outcome, "of {}", row.name);
     }
-    Ok(())
+}
+
+#[test]
+fn libraries_have_limits(rt: HostRuntime) {
+    check_rows(&rt, rt.alloc(), &ROWS);
 }
 
 /// How many interfaces of a chain have parents, and what becomes of it.
 const CHAINS: [(u16, Outcome); 2] = [(249, LIBRARY), (250, ("slots or parents", 250, 0))];
 
 #[test]
-fn parents_have_limits(rt: HostRuntime) -> Result<(), Fail> {
+fn parents_have_limits(rt: HostRuntime) {
     for (times, wanted) in &CHAINS {
-        let text = chain(rt.alloc(), *times)?;
-        let outcome = outcome_of(&rt, rt.alloc(), text.as_slice())?;
+        let text = chain(rt.alloc(), *times).expect(&rt, "a chain");
+        let outcome = outcome_of(&rt, rt.alloc(), text.as_slice());
         assert!(rt; outcome == *wanted, "of {times} parents");
     }
-    Ok(())
 }

@@ -3,7 +3,7 @@
 use crate::declared::library_of;
 use call_model::{CType, MemberKind, Note, Pass, ProtoArg, Status, TableSlot};
 use lib_model::table_of;
-use std::test::Fail;
+use std::process::Abort;
 
 /// An argument of which nothing is known but how it is passed, and its type.
 const PLAIN: ProtoArg = ProtoArg {
@@ -202,15 +202,18 @@ fn is_row(slot: &TableSlot, row: &Row) -> bool {
         && slot.proto.as_slice() == *proto
 }
 
-#[test]
-fn members_have_these_prototypes(rt: HostRuntime) -> Result<(), Fail> {
-    let library = library_of(&rt, rt.alloc(), TEXT)?;
-    let table = table_of(rt.alloc(), &library)?;
-    assert!(rt; table.ifaces.len() == 1);
-    let slots = table.ifaces.as_slice()[0].slots.as_slice();
-    assert!(rt; slots.len() == SLOTS.len());
-    for (slot, row) in slots.iter().zip(&SLOTS) {
-        assert!(rt; is_row(slot, row), "of {:?} {}", row.1, row.0);
+/// Slots are those of their rows.
+fn check_slots(rt: &impl Abort, slots: &[TableSlot], rows: &[Row]) {
+    assert!(rt; slots.len() == rows.len());
+    for (slot, row) in slots.iter().zip(rows) {
+        assert!(rt; is_row(slot, row), "of {}", row.0);
     }
-    Ok(())
+}
+
+#[test]
+fn members_have_these_prototypes(rt: HostRuntime) {
+    let library = library_of(&rt, rt.alloc(), TEXT);
+    let table = table_of(rt.alloc(), &library).expect(&rt, "a table");
+    assert!(rt; table.ifaces.len() == 1);
+    check_slots(&rt, table.ifaces.as_slice()[0].slots.as_slice(), &SLOTS);
 }

@@ -1,7 +1,10 @@
 //! The slots of members.
 
+ghost use Rattle.vtable_layout.specs.Layout.{AreSlotsOf};
+
 use crate::declared::scope_of;
-use std::test::Fail;
+use idl_names::Scope;
+use std::process::Abort;
 use vtable_layout::{Slots, layout, slot_of};
 
 /// Two interfaces with an attribute and a constant each, and one that is not defined.
@@ -38,14 +41,20 @@ fn are_counted(slots: &Slots) -> bool {
     slots.first.as_slice() == FIRST.as_slice() && slots.total.as_slice() == TOTAL.as_slice()
 }
 
-#[test]
-fn slots_follow_those_of_the_parent(rt: HostRuntime) -> Result<(), Fail> {
-    let scope = scope_of(&rt, rt.alloc(), FAMILY)?;
-    let slots = layout(rt.alloc(), &scope)?;
-    assert!(rt; are_counted(&slots));
+/// The members of the family have their slots.
+fn check_members(rt: &impl Abort, scope: &Scope, slots: &Slots)
+    requires { AreSlotsOf scope.now.ifaces slots.now }
+{
     for (iface, member, wanted) in &MEMBERS {
-        let slot = slot_of(&scope, &slots, *iface, *member);
+        let slot = slot_of(scope, slots, *iface, *member);
         assert!(rt; slot == *wanted, "of member {member} of interface {iface}");
     }
-    Ok(())
+}
+
+#[test]
+fn slots_follow_those_of_the_parent(rt: HostRuntime) {
+    let scope = scope_of(&rt, rt.alloc(), FAMILY);
+    let slots = layout(rt.alloc(), &scope).expect(&rt, "slots");
+    assert!(rt; are_counted(&slots));
+    check_members(&rt, &scope, &slots);
 }

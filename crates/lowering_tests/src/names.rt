@@ -1,41 +1,15 @@
-ghost use Rattle.std.specs.Prelude.{◌≤◌, ◌<◌, ◌^◌, ◌≡◌, length, IfOk};
-ghost use Rattle.idl_grammar.specs.ClosedFiles.{AreLawfulFiles, items_of};
+//! The scopes of texts, and the first faults of those that have none.
 
-use idl_grammar::{ClosedFile, parse};
-use idl_lexer::lex;
-use idl_names::{IdlError, Scope, ScopeBody, resolve};
+use crate::declared::resolved;
+use idl_names::{IdlError, Scope, ScopeBody};
 use std::alloc::{AllocError, Global};
 use std::process::Abort;
-use std::test::Fail;
-use xp_base::{Bytes, List, MAX_TEXT};
-
-/// The one file of a text.
-fn closed(alloc: Global, text: &[u8]) -> Result<List<ClosedFile>, Fail>
-    requires { length text.now ≤ MAX_TEXT }
-    ensures lawful { IfOk result AreLawfulFiles }
-    ensures files { IfOk result (λ files. length files < 2 ^ 32) }
-    ensures items { IfOk result (λ files. items_of files < 2 ^ 32) }
-{
-    let tokens = lex(alloc, text)?;
-    let file = parse(alloc, &tokens)?;
-    let name = Bytes::copy(alloc, b"f.idl")?;
-    let mut files = List::new(alloc);
-    files.push(ClosedFile { name, file })?;
-    Ok(files)
-}
-
-/// What comes of a text: its scope, or its first fault.
-fn read(rt: &impl Abort, alloc: Global, text: &str) -> Result<Result<Scope, IdlError>, Fail> {
-    assert!(rt; text.len() <= MAX_TEXT);
-    let files = closed(alloc, text.as_bytes())?;
-    Ok(resolve(alloc, &files))
-}
 
 /// What comes of a text, in words: `-` for a scope, or the code of its first fault, its declaration
 /// and its member.
-fn told(rt: &impl Abort, alloc: Global, text: &str) -> Result<String, Fail> {
-    match read(rt, alloc, text)? {
-        Ok(_) => Ok(String::from_str(alloc, "-")?),
+fn told(alloc: Global, resolved: &Result<Scope, IdlError>) -> Result<String, AllocError> {
+    match resolved {
+        Ok(_) => format!(in alloc; "-"),
         Err(
             IdlError::Fault {
                 code,
@@ -43,19 +17,26 @@ fn told(rt: &impl Abort, alloc: Global, text: &str) -> Result<String, Fail> {
                 member,
                 ..
             },
-        ) => Ok(format!(in alloc; "{code} {decl} {member}")?),
-        Err(IdlError::Memory) => Err(IdlError::Memory)?,
+        ) => format!(in alloc; "{code} {decl} {member}"),
+        Err(IdlError::Memory) => format!(in alloc; "memory"),
     }
+}
+
+/// What was found of a text is what was wanted.
+fn check(rt: &impl Abort, text: &str, found: &str, wanted: &str) {
+    assert!(rt; found == wanted, "of {text}: {found}");
+}
+
+/// A text comes to what is wanted.
+fn check_text(rt: &impl Abort, alloc: Global, text: &str, wanted: &str) {
+    let resolved = resolved(rt, alloc, text.as_bytes());
+    let found = told(alloc, &resolved).expect(rt, text);
+    check(rt, text, found.as_str(), wanted);
 }
 
 /// The row of a table, in two parts.
 fn parts<'a>(rt: &impl Abort, row: &'a str) -> (&'a str, &'a str) {
     row.split_once(':').expect(rt, row)
-}
-
-/// What was found of a text is what was wanted.
-fn check(rt: &impl Abort, text: &str, found: &str, wanted: &str) {
-    assert_eq!(rt; found, wanted, "of {text}");
 }
 
 /// Texts, each behind what comes of it.
@@ -97,13 +78,11 @@ interface a { }; [uuid(00000002-0000-0000-0000-000000000000)] interface b { };
 ";
 
 #[test]
-fn declarations_have_these_codes(rt: HostRuntime) -> Result<(), Fail> {
+fn declarations_have_these_codes(rt: HostRuntime) {
     for row in DECLARATIONS.lines() {
         let (wanted, text) = parts(&rt, row);
-        let found = told(&rt, rt.alloc(), text)?;
-        check(&rt, text, found.as_str(), wanted);
+        check_text(&rt, rt.alloc(), text, wanted);
     }
-    Ok(())
 }
 
 /// Natives, typedefs and interfaces that a body can name, and the front of its own interface.
@@ -114,8 +93,8 @@ typedef short T; interface O;
 [scriptable, uuid(00000001-0000-0000-0000-000000000002)] interface C : B {";
 
 /// An interface with this body.
-fn within(alloc: Global, body: &str) -> Result<String, AllocError> {
-    format!(in alloc; "{}{body}}};", BEFORE)
+fn within(rt: &impl Abort, alloc: Global, body: &str) -> String {
+    format!(in alloc; "{}{body}}};", BEFORE).expect(rt, body)
 }
 
 /// Bodies of an interface, each behind what comes of it. The interface is the seventh declaration.
@@ -183,14 +162,12 @@ const MEMBERS: &str = "\
 ";
 
 #[test]
-fn members_have_these_codes(rt: HostRuntime) -> Result<(), Fail> {
+fn members_have_these_codes(rt: HostRuntime) {
     for row in MEMBERS.lines() {
         let (wanted, body) = parts(&rt, row);
-        let text = within(rt.alloc(), body)?;
-        let found = told(&rt, rt.alloc(), text.as_str())?;
-        check(&rt, body, found.as_str(), wanted);
+        let text = within(&rt, rt.alloc(), body);
+        check_text(&rt, rt.alloc(), text.as_str(), wanted);
     }
-    Ok(())
 }
 
 /// The value of the first member of the last interface, where it is a constant.
@@ -202,14 +179,21 @@ fn last_value(scope: &Scope) -> Option<i64> {
     }
 }
 
-/// The value of a constant, in words; `-` where there is a fault.
-fn told_value(rt: &impl Abort, alloc: Global, expression: &str) -> Result<String, Fail> {
-    let body = format!(in alloc; "const long k = {expression};")?;
-    let text = within(alloc, body.as_str())?;
-    match read(rt, alloc, text.as_str())? {
-        Ok(scope) => Ok(format!(in alloc; "{:?}", last_value(&scope))?),
-        Err(_) => Ok(String::from_str(alloc, "-")?),
+/// The same in words; `-` where there is a fault.
+fn told_value(alloc: Global, resolved: &Result<Scope, IdlError>) -> Result<String, AllocError> {
+    match resolved {
+        Ok(scope) => format!(in alloc; "{:?}", last_value(scope)),
+        Err(_) => format!(in alloc; "-"),
     }
+}
+
+/// A constant of an expression comes to what is wanted.
+fn check_value(rt: &impl Abort, alloc: Global, expression: &str, wanted: &str) {
+    let text = format!(in alloc; "{}const long k = {expression};}};", BEFORE);
+    let text = text.expect(rt, expression);
+    let resolved = resolved(rt, alloc, text.as_bytes());
+    let found = told_value(alloc, &resolved).expect(rt, expression);
+    check(rt, expression, found.as_str(), wanted);
 }
 
 /// Expressions, each behind its value.
@@ -229,11 +213,9 @@ Some(1): 1 << 0
 ";
 
 #[test]
-fn constants_have_these_values(rt: HostRuntime) -> Result<(), Fail> {
+fn constants_have_these_values(rt: HostRuntime) {
     for row in VALUES.lines() {
         let (wanted, expression) = parts(&rt, row);
-        let found = told_value(&rt, rt.alloc(), expression)?;
-        check(&rt, expression, found.as_str(), wanted);
+        check_value(&rt, rt.alloc(), expression, wanted);
     }
-    Ok(())
 }
