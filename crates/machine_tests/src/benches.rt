@@ -1,8 +1,7 @@
 use call_model::Conv;
 use machine_bench::{Bench, MemBench, NoBench, Sight};
-use object_memory::{CELLS_AT, Frame, HeapError, Machine, Width};
-use std::alloc::Global;
-use std::test::Fail;
+use object_memory::{CELLS_AT, Frame, Machine, Width};
+use std::process::Abort;
 
 /// What a sight has to show. Of vtable and heap, their length and their last bytes.
 struct Shown<'a> {
@@ -15,7 +14,7 @@ struct Shown<'a> {
     heap_end: &'a [u8],
 }
 
-/// A machine before anything was done to it, and as `busy` leaves it.
+/// A machine before anything was done to it, and as `make_busy` leaves it.
 const SHOWN: [Shown<'static>; 2] = [
     Shown {
         name: "a new machine",
@@ -49,17 +48,19 @@ fn fill(frame: &mut Frame) {
     frame.set_stack(0, Width::W2, 0x0201);
 }
 
-/// A block, an object, two cells, registers and a stack.
-fn busy(machine: &mut Machine) -> Result<bool, HeapError> {
-    let block = machine.add_block(&[5, 6])?;
-    let object = machine.add_object()?;
-    if machine.cells_free() < 2 {
-        return Ok(false);
-    }
+/// Pushes a cell of zero and one of 1122 (hexadecimal).
+fn push_two(rt: &impl Abort, machine: &mut Machine) {
+    assert!(rt; machine.cells_free() >= 2);
     machine.push_cells(2);
-    let stored = machine.store(CELLS_AT + 8, Width::W2, 0x1122);
+    assert!(rt; machine.store(CELLS_AT + 8, Width::W2, 0x1122));
+}
+
+/// A block, an object, two cells, registers and a stack.
+fn make_busy(rt: &impl Abort, machine: &mut Machine) {
+    machine.add_block(&[5, 6]).expect(rt, "a block");
+    machine.add_object().expect(rt, "an object");
+    push_two(rt, machine);
     fill(machine.frame_mut());
-    Ok(stored && block < object)
 }
 
 /// Whether a sight shows what it has to.
@@ -73,28 +74,25 @@ fn shows(sight: &Sight, shown: &Shown<'_>) -> bool {
 }
 
 /// Looks at a machine before and after it is made busy.
-fn look_twice<B: Bench>(alloc: Global, bench: &mut B) -> Result<bool, Fail> {
-    let mut machine = Machine::new(alloc, Conv::SysV64)?;
-    bench.look(&machine)?;
-    let made = busy(&mut machine)?;
-    bench.look(&machine)?;
-    Ok(made)
+fn look_twice<B: Bench>(rt: &impl Abort, machine: &mut Machine, bench: &mut B) {
+    bench.look(machine).expect(rt, "a look");
+    make_busy(rt, machine);
+    bench.look(machine).expect(rt, "a look");
 }
 
 #[test]
-fn a_bench_remembers_what_it_was_shown(rt: HostRuntime) -> Result<(), Fail> {
+fn a_bench_remembers_what_it_was_shown(rt: HostRuntime) {
+    let mut machine = Machine::new(rt.alloc(), Conv::SysV64).expect(&rt, "a machine");
     let mut bench = MemBench::new(rt.alloc());
-    assert!(rt; look_twice(rt.alloc(), &mut bench)?, "made busy");
+    look_twice(&rt, &mut machine, &mut bench);
     assert!(rt; bench.sights().len() == 2, "two looks");
     for (sight, shown) in bench.sights().as_slice().iter().zip(&SHOWN) {
         assert!(rt; shows(sight, shown), "{}", shown.name);
     }
-    Ok(())
 }
 
 #[test]
-fn a_bench_may_look_nowhere(rt: HostRuntime) -> Result<(), Fail> {
-    let mut bench = NoBench::new();
-    assert!(rt; look_twice(rt.alloc(), &mut bench)?, "made busy");
-    Ok(())
+fn a_bench_may_look_nowhere(rt: HostRuntime) {
+    let mut machine = Machine::new(rt.alloc(), Conv::SysV64).expect(&rt, "a machine");
+    look_twice(&rt, &mut machine, &mut NoBench::new());
 }

@@ -4,12 +4,11 @@ use crate::begun::begin;
 use crate::texts::{add_cells, add_frame, check};
 use crate::typelibs::{ADD, GET_X, MIX, PICK, SAMPLE, SAY, SET_X};
 use call_model::Conv;
-use descriptor_reader::{MethodView, Typelib};
+use descriptor_reader::Typelib;
 use invoke_by_index::{Arg, ArgFault};
-use object_memory::{HeapError, Machine, Width};
+use object_memory::{Machine, Width};
 use std::alloc::{AllocError, Global};
 use std::process::Abort;
-use std::test::Fail;
 
 /// A call of a method of nsIT, through an object that stands alone in the heap; what is stored
 /// before it as the entry of add, if not what a new machine has there; and what comes of it: the
@@ -266,55 +265,54 @@ const CALLS: [Call; 25] = [
     },
 ];
 
-/// The entry of a call that was begun, or what does not fit of its arguments.
-fn begun(alloc: Global, begun: Result<u64, ArgFault>) -> Result<String, AllocError> {
+/// Adds the entry of a call that was begun, or what does not fit of its arguments.
+fn add_begun(text: &mut String, begun: Result<u64, ArgFault>) -> Result<(), AllocError> {
     match begun {
-        Ok(entry) => format!(in alloc; "entry {entry:x}"),
-        Err(fault) => format!(in alloc; "{fault:?}"),
+        Ok(entry) => write!(text, "entry {entry:x}"),
+        Err(fault) => write!(text, "{fault:?}"),
     }
 }
 
-/// What comes of a call of a method of the object at `this`.
-fn outcome(
+/// Adds what is left of a call that was begun so.
+fn add_outcome(
     rt: &impl Abort,
-    alloc: Global,
-    machine: &mut Machine,
-    this: u64,
-    method: &MethodView<'_>,
-    args: &[Arg],
-) -> Result<String, AllocError> {
-    let entry = begin(rt, machine, this, method, args);
-    let mut text = begun(alloc, entry)?;
-    add_cells(rt, &mut text, machine)?;
-    if entry.is_ok() {
-        add_frame(&mut text, machine.frame())?;
+    text: &mut String,
+    begun: Result<u64, ArgFault>,
+    machine: &Machine,
+) -> Result<(), AllocError> {
+    add_begun(text, begun)?;
+    add_cells(rt, text, machine)?;
+    if begun.is_ok() {
+        add_frame(text, machine.frame())?;
     }
-    Ok(text)
+    Ok(())
 }
 
-/// A machine with an object, and the object's address.
-fn with_object(alloc: Global, conv: Conv) -> Result<(Machine, u64), HeapError> {
-    let mut machine = Machine::new(alloc, conv)?;
-    let this = machine.add_object()?;
-    Ok((machine, this))
-}
-
-/// The same of a call of the table.
-fn outcome_of(rt: &impl Abort, alloc: Global, call: &Call) -> Result<String, Fail> {
-    let lib = Typelib::check(&SAMPLE)?;
-    let method = lib.method_at(2, call.slot).expect(rt, "no method");
-    let (mut machine, this) = with_object(alloc, call.conv)?;
+/// Adds an object to a new machine, stores the entry that a call of the table has stored, and
+/// begins the call.
+fn begin_on(rt: &impl Abort, machine: &mut Machine, call: &Call) -> Result<u64, ArgFault> {
+    let this = machine.add_object().expect(rt, "an object");
     if let Some(entry) = call.stored {
         assert!(rt; machine.store(ADD_ENTRY_AT, Width::W8, entry));
     }
-    Ok(outcome(rt, alloc, &mut machine, this, &method, call.args)?)
+    let lib = Typelib::check(&SAMPLE).expect(rt, "a typelib");
+    let method = lib.method_at(2, call.slot).expect(rt, "a method");
+    begin(rt, machine, this, &method, call.args)
+}
+
+/// What comes of a call of the table.
+fn outcome_of(rt: &impl Abort, alloc: Global, call: &Call) -> String {
+    let mut machine = Machine::new(alloc, call.conv).expect(rt, "a machine");
+    let begun = begin_on(rt, &mut machine, call);
+    let mut text = String::new(alloc);
+    add_outcome(rt, &mut text, begun, &machine).expect(rt, "a text");
+    text
 }
 
 #[test]
-fn a_call_passes_what_its_cells_hold(rt: HostRuntime) -> Result<(), Fail> {
+fn a_call_passes_what_its_cells_hold(rt: HostRuntime) {
     for call in &CALLS {
-        let came = outcome_of(&rt, rt.alloc(), call)?;
+        let came = outcome_of(&rt, rt.alloc(), call);
         check(&rt, call.name, came.as_str(), call.came);
     }
-    Ok(())
 }

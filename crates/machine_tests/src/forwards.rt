@@ -8,7 +8,6 @@ use call_model::Conv;
 use proxy_objects::{ForwardError, Forwards, MOST_FORWARDERS};
 use std::alloc::{AllocError, Global};
 use std::process::Abort;
-use std::test::Fail;
 
 /// As many forwarders in a row as there may be: object 1 hands its calls on to object 0, and each
 /// other one to the object before it. The second has a convention of its own.
@@ -41,10 +40,10 @@ fn add_last(rt: &impl Abort, forwards: &mut Forwards) -> Result<(), ForwardError
 }
 
 /// The row, and object 17 behind the fifteenth of it.
-fn row_and_last(rt: &impl Abort, alloc: Global) -> Result<Forwards, ForwardError> {
-    let mut forwards = row(rt, alloc)?;
-    add_last(rt, &mut forwards)?;
-    Ok(forwards)
+fn row_and_last(rt: &impl Abort, alloc: Global) -> Forwards {
+    let mut forwards = row(rt, alloc).expect(rt, "a row");
+    add_last(rt, &mut forwards).expect(rt, "one more");
+    forwards
 }
 
 /// What an object hands its calls on to, under which convention of its own, and how many forwarders
@@ -61,12 +60,6 @@ fn known(alloc: Global, forwards: &Forwards, object: u32) -> Result<String, Allo
     }
 }
 
-/// What is known of an object then.
-fn known_of(rt: &impl Abort, alloc: Global, object: u32) -> Result<String, Fail> {
-    let forwards = row_and_last(rt, alloc)?;
-    Ok(known(alloc, &forwards, object)?)
-}
-
 /// An object, and what is known of it.
 const KNOWN: [(&str, u32, &str); 6] = [
     ("the object that answers", 0, "depth 0"),
@@ -79,10 +72,10 @@ const KNOWN: [(&str, u32, &str); 6] = [
 
 // Each on the last: the object behind the sixteenth can't be made a forwarder.
 #[test]
-fn the_seventeenth_forwarder_in_a_row_is_refused(rt: HostRuntime) -> Result<(), Fail> {
+fn the_seventeenth_forwarder_in_a_row_is_refused(rt: HostRuntime) {
+    let forwards = row_and_last(&rt, rt.alloc());
     for (name, object, wanted) in &KNOWN {
-        let found = known_of(&rt, rt.alloc(), *object)?;
+        let found = known(rt.alloc(), &forwards, *object).expect(&rt, name);
         check(&rt, name, found.as_str(), wanted);
     }
-    Ok(())
 }

@@ -4,7 +4,6 @@ ghost use Rattle.object_memory.specs.Frames.{IsPlace};
 use call_model::{CType, Conv, Loc};
 use invoke_by_index::fill_frame;
 use object_memory::{Frame, Machine, Width};
-use std::test::Fail;
 use sysv_x86_64::Walk;
 
 /// Arguments of a call under sysv64, and the frame that it begins with.
@@ -93,13 +92,12 @@ const CALLS: [Filled<'static>; 3] = [
 
 // Nothing of an earlier call is left.
 #[test]
-fn a_frame_has_registers_and_stack_of_one_call(rt: HostRuntime) -> Result<(), Fail> {
-    let mut machine = Machine::new(rt.alloc(), Conv::SysV64)?;
+fn a_frame_has_registers_and_stack_of_one_call(rt: HostRuntime) {
+    let mut machine = Machine::new(rt.alloc(), Conv::SysV64).expect(&rt, "a machine");
     let frame = machine.frame_mut();
     for call in &CALLS {
         assert!(rt; is_filled(frame, call), "{}", call.name);
     }
-    Ok(())
 }
 
 /// Whether a location is a register, or so many bytes of the stack.
@@ -156,12 +154,11 @@ fn fill(frame: &mut Frame) {
 
 // What stands above the own bytes does not count.
 #[test]
-fn the_own_bytes_of_a_location_are_its_low_ones(rt: HostRuntime) -> Result<(), Fail> {
-    let mut machine = Machine::new(rt.alloc(), Conv::SysV64)?;
+fn the_own_bytes_of_a_location_are_its_low_ones(rt: HostRuntime) {
+    let mut machine = Machine::new(rt.alloc(), Conv::SysV64).expect(&rt, "a machine");
     let frame = machine.frame_mut();
     fill(frame);
     for (name, at, n, value) in &OWNS {
         assert!(rt; owns(frame, *at, *n) == Some(*value), "{name}");
     }
-    Ok(())
 }

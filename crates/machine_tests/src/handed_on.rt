@@ -4,13 +4,12 @@ use crate::stubs::{calling, dispatch_here};
 use crate::texts::{add_frame, add_numbers, check};
 use crate::typelibs::SHORTS;
 use call_model::Conv;
-use descriptor_reader::{BadTypelib, Typelib};
+use descriptor_reader::Typelib;
 use object_memory::Machine;
 use proxy_objects::forward_call;
 use script_calls::Forwarder;
 use std::alloc::{AllocError, Global};
 use std::process::Abort;
-use std::test::Fail;
 
 /// What a forwarder is made of that receives a call of sh, and what comes of the call: the result,
 /// the entry and the values that are kept, and the frame that is left.
@@ -75,45 +74,46 @@ const HANDED: [Handed; 6] = [
 ];
 
 /// Hands the call of sh in a machine's frame over to a forwarder, and gives the result.
-fn hand_over(
-    rt: &impl Abort,
-    machine: &mut Machine,
-    forwarder: &mut Forwarder,
-) -> Result<u32, BadTypelib> {
-    let lib = Typelib::check(&SHORTS)?;
-    let method = lib.method_at(1, 3).expect(rt, "no method");
-    Ok(dispatch_here(rt, machine, &method, forwarder))
+fn hand_over(rt: &impl Abort, machine: &mut Machine, forwarder: &mut Forwarder) -> u32 {
+    let lib = Typelib::check(&SHORTS).expect(rt, "a typelib");
+    let method = lib.method_at(1, 3).expect(rt, "a method");
+    dispatch_here(rt, machine, &method, forwarder)
 }
 
-/// What is left of a call that was answered so.
-fn told(
-    alloc: Global,
+/// Adds what is left of a call that was answered so.
+fn tell(
+    text: &mut String,
     answer: u32,
     machine: &Machine,
     forwarder: &Forwarder,
-) -> Result<String, AllocError> {
+) -> Result<(), AllocError> {
     let entry = forwarder.entry();
-    let mut text = format!(in alloc; "result {answer:x}; entry {entry:x}; got")?;
-    add_numbers(&mut text, forwarder.received())?;
-    add_frame(&mut text, machine.frame())?;
-    Ok(text)
+    write!(text, "result {answer:x}; entry {entry:x}; got")?;
+    add_numbers(text, forwarder.received())?;
+    add_frame(text, machine.frame())
+}
+
+/// A forwarder of a row.
+fn forwarder_of(rt: &impl Abort, alloc: Global, row: &Handed) -> Forwarder {
+    Forwarder::new(alloc, row.conv, row.target, row.positions).expect(rt, "a forwarder")
 }
 
 /// What comes of a call that is handed on.
-fn outcome_of(rt: &impl Abort, alloc: Global, row: &Handed) -> Result<String, Fail> {
-    let mut machine = calling(alloc)?;
-    let mut forwarder = Forwarder::new(alloc, row.conv, row.target, row.positions)?;
-    let result = hand_over(rt, &mut machine, &mut forwarder)?;
-    Ok(told(alloc, result, &machine, &forwarder)?)
+fn outcome_of(rt: &impl Abort, alloc: Global, row: &Handed) -> String {
+    let mut machine = calling(rt, alloc);
+    let mut forwarder = forwarder_of(rt, alloc, row);
+    let result = hand_over(rt, &mut machine, &mut forwarder);
+    let mut text = String::new(alloc);
+    tell(&mut text, result, &machine, &forwarder).expect(rt, "a text");
+    text
 }
 
 #[test]
-fn a_call_is_handed_on_to_its_target(rt: HostRuntime) -> Result<(), Fail> {
+fn a_call_is_handed_on_to_its_target(rt: HostRuntime) {
     for row in &HANDED {
-        let came = outcome_of(&rt, rt.alloc(), row)?;
+        let came = outcome_of(&rt, rt.alloc(), row);
         check(&rt, row.name, came.as_str(), row.came);
     }
-    Ok(())
 }
 
 /// The frame of a call that is handed on under aapcs64.
@@ -130,11 +130,10 @@ fn hand_on(rt: &impl Abort, machine: &mut Machine) -> Option<u64> {
 }
 
 #[test]
-fn a_call_is_handed_on_in_a_clean_frame(rt: HostRuntime) -> Result<(), Fail> {
-    let mut machine = calling(rt.alloc())?;
+fn a_call_is_handed_on_in_a_clean_frame(rt: HostRuntime) {
+    let mut machine = calling(&rt, rt.alloc());
     assert!(rt; hand_on(&rt, &mut machine) == Some(0x1030));
     let mut text = String::new(rt.alloc());
-    add_frame(&mut text, machine.frame())?;
+    add_frame(&mut text, machine.frame()).expect(&rt, "a text");
     check(&rt, "aapcs64", text.as_str(), CLEAN);
-    Ok(())
 }

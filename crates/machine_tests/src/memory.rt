@@ -1,7 +1,7 @@
 use call_model::{CType, Conv};
 use object_memory::{CELLS_AT, HEAP_LIMIT, HeapError, MOST_CELLS, Machine, VTABLE_AT, Width};
 use std::alloc::Global;
-use std::test::Fail;
+use std::process::Abort;
 
 /// A call of a machine. Those of the second part leave it as it is.
 enum Call {
@@ -51,19 +51,24 @@ fn told(machine: &Machine, call: &Call) -> Option<u64> {
 }
 
 /// The address of a new block; none where the heap has no space for it.
-fn address_of(block: Result<u64, HeapError>) -> Result<Option<u64>, HeapError> {
+fn address_of(rt: &impl Abort, block: Result<u64, HeapError>) -> Option<u64> {
     match block {
-        Ok(at) => Ok(Some(at)),
-        Err(HeapError::Full) => Ok(None),
-        Err(error) => Err(error),
+        Ok(at) => Some(at),
+        Err(error) => {
+            assert!(rt; error == HeapError::Full, "memory");
+            None
+        }
     }
 }
 
 /// Adds a block of so many sevens.
-fn add_sevens(alloc: Global, machine: &mut Machine, n: usize) -> Result<u64, HeapError> {
-    let Ok(sevens) = Vec::from_elem(alloc, 7, n) else {
-        return Err(HeapError::Memory);
-    };
+fn add_sevens(
+    rt: &impl Abort,
+    alloc: Global,
+    machine: &mut Machine,
+    n: usize,
+) -> Result<u64, HeapError> {
+    let sevens = Vec::from_elem(alloc, 7, n).expect(rt, "sevens");
     machine.add_block(&sevens)
 }
 
@@ -85,16 +90,16 @@ fn pop(machine: &mut Machine, n: u32) -> Option<u64> {
 }
 
 /// What a machine answers.
-fn answer(alloc: Global, machine: &mut Machine, call: &Call) -> Result<Option<u64>, HeapError> {
+fn answer(rt: &impl Abort, alloc: Global, machine: &mut Machine, call: &Call) -> Option<u64> {
     match call {
-        Call::AddBlock(bytes) => address_of(machine.add_block(bytes)),
-        Call::AddSevens(n) => address_of(add_sevens(alloc, machine, *n)),
-        Call::AddObject => address_of(machine.add_object()),
-        Call::Store(at, width, v) => Ok(Some(u64::from(machine.store(*at, *width, *v)))),
-        Call::StoreBytes(at, bytes) => Ok(Some(u64::from(machine.store_bytes(*at, bytes)))),
-        Call::Push(n) => Ok(push(machine, *n)),
-        Call::Pop(n) => Ok(pop(machine, *n)),
-        _ => Ok(told(machine, call)),
+        Call::AddBlock(bytes) => address_of(rt, machine.add_block(bytes)),
+        Call::AddSevens(n) => address_of(rt, add_sevens(rt, alloc, machine, *n)),
+        Call::AddObject => address_of(rt, machine.add_object()),
+        Call::Store(at, width, v) => Some(u64::from(machine.store(*at, *width, *v))),
+        Call::StoreBytes(at, bytes) => Some(u64::from(machine.store_bytes(*at, bytes))),
+        Call::Push(n) => push(machine, *n),
+        Call::Pop(n) => pop(machine, *n),
+        _ => told(machine, call),
     }
 }
 
@@ -200,16 +205,20 @@ const RUNS: [Run; 6] = [
     },
 ];
 
-#[test]
-fn a_machine_answers_each_call(rt: HostRuntime) -> Result<(), Fail> {
-    for run in &RUNS {
-        let mut machine = Machine::new(rt.alloc(), run.conv)?;
-        for (k, (call, wanted)) in run.calls.iter().enumerate() {
-            let found = answer(rt.alloc(), &mut machine, call)?;
-            assert!(rt; found == *wanted, "{}, call {k}", run.name);
-        }
+/// A machine answers the calls of a run as it has to.
+fn check_run(rt: &impl Abort, alloc: Global, machine: &mut Machine, run: &Run) {
+    for (k, (call, wanted)) in run.calls.iter().enumerate() {
+        let found = answer(rt, alloc, machine, call);
+        assert!(rt; found == *wanted, "{}, call {k}", run.name);
     }
-    Ok(())
+}
+
+#[test]
+fn a_machine_answers_each_call(rt: HostRuntime) {
+    for run in &RUNS {
+        let mut machine = Machine::new(rt.alloc(), run.conv).expect(&rt, run.name);
+        check_run(&rt, rt.alloc(), &mut machine, run);
+    }
 }
 
 /// A type under a convention, and its width.

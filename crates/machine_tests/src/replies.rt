@@ -12,8 +12,7 @@ use invoke_by_index::Arg;
 use object_memory::Machine;
 use std::alloc::{AllocError, Global};
 use std::process::Abort;
-use std::test::Fail;
-use xp_base::{Bytes, List, Memory};
+use xp_base::{Bytes, List};
 
 /// A part of a sum.
 #[derive(Clone, Copy)]
@@ -46,8 +45,12 @@ fn second_of(part: Option<Part>) -> Option<Term> {
     }
 }
 
-fn item_of(alloc: Global, item: Item<'_>) -> Result<ReplyItem, Memory> {
-    Ok(match item {
+fn bytes_of(rt: &impl Abort, alloc: Global, bytes: &[u8]) -> Bytes {
+    Bytes::copy(alloc, bytes).expect(rt, "bytes")
+}
+
+fn item_of(rt: &impl Abort, alloc: Global, item: Item<'_>) -> ReplyItem {
+    match item {
         Item::Result(result) => ReplyItem::Result(result),
         Item::Set(at, first, second) => ReplyItem::Set {
             at,
@@ -57,31 +60,33 @@ fn item_of(alloc: Global, item: Item<'_>) -> Result<ReplyItem, Memory> {
         Item::Fill(at, offset, bytes) => ReplyItem::Fill {
             at,
             offset,
-            bytes: Bytes::copy(alloc, bytes)?,
+            bytes: bytes_of(rt, alloc, bytes),
         },
-    })
+    }
 }
 
-fn rule_of(alloc: Global, items: &[Item<'_>]) -> Result<List<ReplyItem>, Memory> {
+/// A rule of these items.
+fn rule_of(rt: &impl Abort, alloc: Global, items: &[Item<'_>]) -> List<ReplyItem> {
     let mut rule = List::new(alloc);
     for item in items {
-        rule.push(item_of(alloc, *item)?)?;
+        rule.push(item_of(rt, alloc, *item)).expect(rt, "a rule");
     }
-    Ok(rule)
+    rule
 }
 
 /// A replier with this rule, or without one.
 fn replier(
+    rt: &impl Abort,
     alloc: Global,
     entered: bool,
     positions: u32,
     rule: Option<&[Item<'_>]>,
-) -> Result<Replier, Memory> {
+) -> Replier {
     let rule = match rule {
-        Some(items) => Some(rule_of(alloc, items)?),
+        Some(items) => Some(rule_of(rt, alloc, items)),
         None => None,
     };
-    Replier::new(alloc, entered, rule, positions)
+    Replier::new(alloc, entered, rule, positions).expect(rt, "a replier")
 }
 
 /// The address of the data block, behind which the object that is called stands.
@@ -98,27 +103,26 @@ fn kept_by(replier: Replier) -> usize {
     }
 }
 
-/// What is left of a call that was answered so: the result, the values that were received, the
+/// Adds what is left of a call that was answered so: the result, the values that were received, the
 /// data, and the cells.
-fn told(
+fn tell(
     rt: &impl Abort,
-    alloc: Global,
+    text: &mut String,
     answer: u32,
     machine: &Machine,
     replier: &Replier,
-) -> Result<String, AllocError> {
-    let mut text = format!(in alloc; "result {answer:x}; got")?;
-    add_numbers(&mut text, replier.received())?;
+) -> Result<(), AllocError> {
+    write!(text, "result {answer:x}; got")?;
+    add_numbers(text, replier.received())?;
     text.push_str("; data")?;
-    add_bytes(&mut text, machine.bytes(DATA_AT, 8).expect(rt, "no data"))?;
-    add_cells(rt, &mut text, machine)?;
-    Ok(text)
+    add_bytes(text, machine.bytes(DATA_AT, 8).expect(rt, "no data"))?;
+    add_cells(rt, text, machine)
 }
 
-/// A text with a count of items behind it.
-fn with_kept(mut text: String, kept: usize) -> Result<String, AllocError> {
-    write!(text, "; kept {kept}")?;
-    Ok(text)
+/// Adds how many items of its rule a replier gives back.
+fn tell_kept(text: &mut String, replier: Replier) -> Result<(), AllocError> {
+    let kept = kept_by(replier);
+    write!(text, "; kept {kept}")
 }
 
 /// What comes of the call in a machine's frame, and how many items of its rule the replier gives
@@ -129,21 +133,23 @@ fn outcome(
     machine: &mut Machine,
     method: &MethodView<'_>,
     mut replier: Replier,
-) -> Result<String, AllocError> {
+) -> String {
     let result = dispatch_here(rt, machine, method, &mut replier);
-    let text = told(rt, alloc, result, machine, &replier)?;
-    with_kept(text, kept_by(replier))
+    let mut text = String::new(alloc);
+    tell(rt, &mut text, result, machine, &replier).expect(rt, "a text");
+    tell_kept(&mut text, replier).expect(rt, "a text");
+    text
 }
 
 /// The address of the object that is called.
 const OBJECT: u64 = 0x107e0;
 
 /// A machine of sysv64 with the data block and the object.
-fn with_data(alloc: Global) -> Result<Machine, Fail> {
-    let mut machine = Machine::new(alloc, Conv::SysV64)?;
-    machine.add_block(&DATA)?;
-    machine.add_object()?;
-    Ok(machine)
+fn with_data(rt: &impl Abort, alloc: Global) -> Machine {
+    let mut machine = Machine::new(alloc, Conv::SysV64).expect(rt, "a machine");
+    machine.add_block(&DATA).expect(rt, "a block");
+    machine.add_object().expect(rt, "an object");
+    machine
 }
 
 /// A call of a method of nsIT, how many arguments its replier is made for, the rule, and what comes
@@ -236,22 +242,21 @@ const REPLIES: [Replied; 7] = [
 ];
 
 /// What comes of a call through cells.
-fn outcome_of(rt: &impl Abort, alloc: Global, row: &Replied) -> Result<String, Fail> {
-    let lib = Typelib::check(&SAMPLE)?;
-    let method = lib.method_at(2, row.slot).expect(rt, "no method");
-    let mut machine = with_data(alloc)?;
+fn outcome_of(rt: &impl Abort, alloc: Global, row: &Replied) -> String {
+    let lib = Typelib::check(&SAMPLE).expect(rt, "a typelib");
+    let method = lib.method_at(2, row.slot).expect(rt, "a method");
+    let mut machine = with_data(rt, alloc);
     assert!(rt; begin(rt, &mut machine, OBJECT, &method, row.args).is_ok());
-    let replier = replier(alloc, false, row.positions, row.rule)?;
-    Ok(outcome(rt, alloc, &mut machine, &method, replier)?)
+    let replier = replier(rt, alloc, false, row.positions, row.rule);
+    outcome(rt, alloc, &mut machine, &method, replier)
 }
 
 #[test]
-fn a_call_is_answered_by_its_rule(rt: HostRuntime) -> Result<(), Fail> {
+fn a_call_is_answered_by_its_rule(rt: HostRuntime) {
     for row in &REPLIES {
-        let came = outcome_of(&rt, rt.alloc(), row)?;
+        let came = outcome_of(&rt, rt.alloc(), row);
         check(&rt, row.name, came.as_str(), row.came);
     }
-    Ok(())
 }
 
 /// Whether b8 counts as entered, the address that came for its boolean, and what comes of it.
@@ -290,21 +295,20 @@ const ENTERED: [Entered; 3] = [
 const ONE: [Item<'static>; 1] = [Item::Set(0, Part::Number(1), None)];
 
 /// What comes of a call of b8.
-fn outcome_of_entered(rt: &impl Abort, alloc: Global, row: &Entered) -> Result<String, Fail> {
-    let lib = Typelib::check(&BOOLEANS)?;
-    let method = lib.method_at(1, 3).expect(rt, "no method");
-    let mut machine = with_data(alloc)?;
+fn outcome_of_entered(rt: &impl Abort, alloc: Global, row: &Entered) -> String {
+    let lib = Typelib::check(&BOOLEANS).expect(rt, "a typelib");
+    let method = lib.method_at(1, 3).expect(rt, "a method");
+    let mut machine = with_data(rt, alloc);
     let gprs = [OBJECT, row.address, 0, 0, 0, 0, 0, 0];
     fill(machine.frame_mut(), &gprs, &[]);
-    let replier = replier(alloc, row.entered, 1, Some(&ONE))?;
-    Ok(outcome(rt, alloc, &mut machine, &method, replier)?)
+    let replier = replier(rt, alloc, row.entered, 1, Some(&ONE));
+    outcome(rt, alloc, &mut machine, &method, replier)
 }
 
 #[test]
-fn an_entered_method_writes_to_a_block(rt: HostRuntime) -> Result<(), Fail> {
+fn an_entered_method_writes_to_a_block(rt: HostRuntime) {
     for row in &ENTERED {
-        let came = outcome_of_entered(&rt, rt.alloc(), row)?;
+        let came = outcome_of_entered(&rt, rt.alloc(), row);
         check(&rt, row.name, came.as_str(), row.came);
     }
-    Ok(())
 }

@@ -11,9 +11,8 @@ use call_model::{Conv, Convention, Loc};
 use descriptor_reader::{MethodView, Typelib};
 use object_memory::{Frame, Machine};
 use script_calls::dispatch_under;
-use std::alloc::Global;
+use std::alloc::{AllocError, Global};
 use std::process::Abort;
-use std::test::Fail;
 use stub_dispatch::{Callee, FrameShort, recover};
 
 /// A frame of a call of sh, and what comes of it: whether it is long enough, and what the cell
@@ -132,27 +131,42 @@ fn recover_under(
     }
 }
 
+/// The same of a call of sh.
+fn recover_from(
+    rt: &impl Abort,
+    conv: Conv,
+    frame: &Frame,
+    cells: &mut [u64],
+) -> Result<(), FrameShort> {
+    let lib = Typelib::check(&SHORTS).expect(rt, "a typelib");
+    let method = lib.method_at(1, 3).expect(rt, "a method");
+    recover_under(rt, conv, frame, &method, cells)
+}
+
+/// Adds whether cells were taken back, and what they hold.
+fn tell(text: &mut String, taken: Result<(), FrameShort>, cells: &[u64]) -> Result<(), AllocError> {
+    write!(text, "{taken:?}")?;
+    add_numbers(text, cells)
+}
+
 /// What comes of a frame.
-fn outcome_of(rt: &impl Abort, alloc: Global, row: &Received) -> Result<String, Fail> {
-    let lib = Typelib::check(&SHORTS)?;
-    let method = lib.method_at(1, 3).expect(rt, "no method");
-    let mut machine = Machine::new(alloc, row.conv)?;
+fn outcome_of(rt: &impl Abort, alloc: Global, row: &Received) -> String {
+    let mut machine = Machine::new(alloc, row.conv).expect(rt, "a machine");
     fill(machine.frame_mut(), &row.gprs, row.stack);
     let mut cells = [BEFORE];
-    let taken = recover_under(rt, row.conv, machine.frame(), &method, &mut cells);
-    let mut text = format!(in alloc; "{taken:?}")?;
-    add_numbers(&mut text, &cells)?;
-    Ok(text)
+    let taken = recover_from(rt, row.conv, machine.frame(), &mut cells);
+    let mut text = String::new(alloc);
+    tell(&mut text, taken, &cells).expect(rt, "a text");
+    text
 }
 
 // What stands in free bits and bytes does not count.
 #[test]
-fn a_value_is_taken_back_from_its_own_bytes(rt: HostRuntime) -> Result<(), Fail> {
+fn a_value_is_taken_back_from_its_own_bytes(rt: HostRuntime) {
     for row in &RECEIVED {
-        let came = outcome_of(&rt, rt.alloc(), row)?;
+        let came = outcome_of(&rt, rt.alloc(), row);
         check(&rt, row.name, came.as_str(), row.came);
     }
-    Ok(())
 }
 
 /// The last call that was handed over, and how many were.
@@ -226,18 +240,18 @@ pub(crate) fn dispatch_here<K: Callee>(
 pub(crate) const GPRS: [u64; 8] = [0x107e0, 0xdead_beef_cafe_8001, 1, 2, 3, 7, 8, 9];
 
 /// A machine of sysv64 with two objects, and in its frame a call of sh of the second.
-pub(crate) fn calling(alloc: Global) -> Result<Machine, Fail> {
-    let mut machine = Machine::new(alloc, Conv::SysV64)?;
-    machine.add_object()?;
-    machine.add_object()?;
+pub(crate) fn calling(rt: &impl Abort, alloc: Global) -> Machine {
+    let mut machine = Machine::new(alloc, Conv::SysV64).expect(rt, "a machine");
+    machine.add_object().expect(rt, "an object");
+    machine.add_object().expect(rt, "an object");
     fill(machine.frame_mut(), &GPRS, &[1, 2, 3]);
-    Ok(machine)
+    machine
 }
 
 /// Hands the call in a machine's frame over to a recorder, and gives the answer and the recorder.
-fn recorded(rt: &impl Abort, machine: &mut Machine) -> Result<(u32, Recorder), Fail> {
-    let lib = Typelib::check(&SHORTS)?;
-    let method = lib.method_at(1, 3).expect(rt, "no method");
+fn recorded(rt: &impl Abort, machine: &mut Machine) -> (u32, Recorder) {
+    let lib = Typelib::check(&SHORTS).expect(rt, "a typelib");
+    let method = lib.method_at(1, 3).expect(rt, "a method");
     let mut recorder = Recorder {
         calls: 0,
         object: 0,
@@ -245,15 +259,14 @@ fn recorded(rt: &impl Abort, machine: &mut Machine) -> Result<(u32, Recorder), F
         cell: 0,
     };
     let answer = dispatch_here(rt, machine, &method, &mut recorder);
-    Ok((answer, recorder))
+    (answer, recorder)
 }
 
 #[test]
-fn a_call_is_handed_over_once(rt: HostRuntime) -> Result<(), Fail> {
-    let mut machine = calling(rt.alloc())?;
-    let (answer, recorder) = recorded(&rt, &mut machine)?;
+fn a_call_is_handed_over_once(rt: HostRuntime) {
+    let mut machine = calling(&rt, rt.alloc());
+    let (answer, recorder) = recorded(&rt, &mut machine);
     assert!(rt; answer == 7 && recorder.calls == 1);
     assert!(rt; recorder.object == 1 && recorder.slot == 3);
     assert!(rt; recorder.cell == 0xffff_ffff_ffff_8001);
-    Ok(())
 }

@@ -6,7 +6,7 @@ use std::process::Abort;
 
 /// What came of a case is what was wanted.
 pub(crate) fn check(rt: &impl Abort, name: &str, came: &str, wanted: &str) {
-    assert_eq!(rt; came, wanted, "of {name}");
+    assert!(rt; came == wanted, "of {name}: {came}");
 }
 
 /// Adds numbers, each behind a space.
