@@ -4,7 +4,7 @@ use descriptor_reader::Typelib;
 use dump_text::dump;
 use printed_names::escaped;
 use std::alloc::Global;
-use std::test::Fail;
+use std::process::Abort;
 use xp_base::{CalmSink, List, MAX_TYPELIB, MemSink, RunFault};
 
 /// One interface with a method of one number.
@@ -257,63 +257,69 @@ const ROWS: [Row; 9] = [
 ];
 
 /// The sink with the listing of these bytes.
-fn listing_of(alloc: Global, bytes: &[u8]) -> Result<CalmSink, Fail> {
-    if bytes.len() > MAX_TYPELIB {
-        return Err(Fail::from("too long"));
-    }
-    let lib = Typelib::check(bytes)?;
+fn listing_of(rt: &impl Abort, alloc: Global, bytes: &[u8]) -> CalmSink {
+    assert!(rt; bytes.len() <= MAX_TYPELIB);
+    let lib = Typelib::check(bytes).expect(rt, "a typelib");
     let mut out = CalmSink::new(alloc);
-    dump(alloc, &lib, &mut out)?;
-    Ok(out)
+    dump(alloc, &lib, &mut out).expect(rt, "a listing");
+    out
 }
 
-#[test]
-fn typelibs_are_listed(rt: HostRuntime) -> Result<(), Fail> {
-    for row in &ROWS {
-        let out = listing_of(rt.alloc(), row.typelib)?;
+/// Each typelib has its listing.
+fn check_rows(rt: &impl Abort, alloc: Global, rows: &[Row]) {
+    for row in rows {
+        let out = listing_of(rt, alloc, row.typelib);
         assert!(rt;
             out.written() == row.listing.as_bytes(),
             "of {}",
             row.listing
         );
     }
-    Ok(())
+}
+
+#[test]
+fn typelibs_are_listed(rt: HostRuntime) {
+    check_rows(&rt, rt.alloc(), &ROWS);
 }
 
 /// The put that fails, of a sink that takes one byte at each.
 const FAILURES: [u64; 4] = [1, 2, 15, 100];
 
-/// Whether the listing ends where the put of this number fails, and the sink is blamed for it.
-fn ends_at(alloc: Global, lib: &Typelib<'_>, failure: u64) -> Result<bool, Fail> {
+/// A sink that takes one byte at each put, and fails at this one.
+fn sink_failing_at(rt: &impl Abort, alloc: Global, failure: u64) -> MemSink {
     let mut failures = List::new(alloc);
-    failures.push(failure)?;
-    let mut out = MemSink::new(alloc, 1, failures);
+    failures.push(failure).expect(rt, "a number");
+    MemSink::new(alloc, 1, failures)
+}
+
+/// Whether the listing ends where the put of this number fails, and the sink is blamed for it.
+fn ends_at(rt: &impl Abort, alloc: Global, lib: &Typelib<'_>, failure: u64) -> bool {
+    let mut out = sink_failing_at(rt, alloc, failure);
     let answer = dump(alloc, lib, &mut out);
     let written = out.written();
-    Ok(
-        matches!(answer, Err(RunFault::Sink))
-            && written.len() as u64 + 1 == failure
-            && CONSTANTS_LISTING.as_bytes().starts_with(written),
-    )
+    matches!(answer, Err(RunFault::Sink))
+        && written.len() as u64 + 1 == failure
+        && CONSTANTS_LISTING.as_bytes().starts_with(written)
 }
 
 #[test]
-fn a_failing_sink_has_a_prefix(rt: HostRuntime) -> Result<(), Fail> {
-    let lib = Typelib::check(&CONSTANTS)?;
+fn a_failing_sink_has_a_prefix(rt: HostRuntime) {
+    let lib = Typelib::check(&CONSTANTS).expect(&rt, "a typelib");
     for failure in &FAILURES {
-        assert!(rt; ends_at(rt.alloc(), &lib, *failure)?, "at put {failure}");
+        assert!(rt;
+            ends_at(&rt, rt.alloc(), &lib, *failure),
+            "at put {failure}"
+        );
     }
-    Ok(())
 }
 
 #[test]
-fn a_narrow_sink_has_the_whole_listing(rt: HostRuntime) -> Result<(), Fail> {
+fn a_narrow_sink_has_the_whole_listing(rt: HostRuntime) {
     let alloc = rt.alloc();
-    let lib = Typelib::check(&CONSTANTS)?;
+    let lib = Typelib::check(&CONSTANTS).expect(&rt, "a typelib");
     let mut out = MemSink::new(alloc, 1, List::new(alloc));
-    dump(alloc, &lib, &mut out)?;
+    dump(alloc, &lib, &mut out).expect(&rt, "a listing");
     assert!(rt; out.written() == CONSTANTS_LISTING.as_bytes());
-    Ok(())
 }
 
 /// Names, and the words that stand for them.
@@ -325,10 +331,9 @@ const NAMES_AND_WORDS: [(&[u8], &[u8]); 4] = [
 ];
 
 #[test]
-fn names_are_escaped(rt: HostRuntime) -> Result<(), Fail> {
+fn names_are_escaped(rt: HostRuntime) {
     for (name, word) in &NAMES_AND_WORDS {
-        let escaped = escaped(rt.alloc(), name)?;
+        let escaped = escaped(rt.alloc(), name).expect(&rt, "a word");
         assert!(rt; escaped.as_slice() == *word, "of {name:?}");
     }
-    Ok(())
 }

@@ -6,7 +6,6 @@ ghost use Rattle.std.specs.Prelude.{◌≡◌, ◌≤◌, length};
 use descriptor_reader::Typelib;
 use std::alloc::Global;
 use std::process::Abort;
-use std::test::Fail;
 use xp_base::{Bytes, MAX_TYPELIB, Memory};
 
 /// One interface, nsIA, with one method, f, which takes one number of 32 bits.
@@ -126,12 +125,17 @@ fn fault_of_changed(rt: &impl Abort, len: usize, place: usize, byte: u8) -> Opti
     fault_of(&file[..len])
 }
 
-#[test]
-fn a_short_or_changed_file_has_its_fault(rt: HostRuntime) {
-    for (len, place, byte, wanted) in &CHANGES {
-        let found = fault_of_changed(&rt, *len, *place, *byte);
+/// Each changed file has its fault.
+fn check_changes(rt: &impl Abort, rows: &[Change]) {
+    for (len, place, byte, wanted) in rows {
+        let found = fault_of_changed(rt, *len, *place, *byte);
         assert!(rt; found == *wanted, "byte {place} of {len} is {byte}");
     }
+}
+
+#[test]
+fn a_short_or_changed_file_has_its_fault(rt: HostRuntime) {
+    check_changes(&rt, &CHANGES);
 }
 
 /// Adds a piece so many times.
@@ -142,25 +146,19 @@ fn add(file: &mut Bytes, piece: &[u8], times: u32) -> Result<(), Memory> {
     Ok(())
 }
 
-/// A file of a header, so many entries, the head of the pool and so many methods.
-fn assembled(
-    alloc: Global,
-    header: &[u8],
-    entries: u32,
-    pool: &[u8],
-    methods: u32,
-) -> Result<Bytes, Memory> {
-    let mut file = Bytes::copy(alloc, header)?;
-    add(&mut file, &ENTRY, entries)?;
-    file.append(pool)?;
-    add(&mut file, &METHOD, methods)?;
-    file.append(&END)?;
-    Ok(file)
-}
-
 /// A header, how many entries follow it, the head of the pool, how many methods follow that, and
 /// the code and the place of the first fault.
 type Large = (&'static [u8], u32, &'static [u8], u32, Option<(u8, u64)>);
+
+/// Adds a header, so many entries, the head of the pool and so many methods.
+fn assemble(file: &mut Bytes, large: &Large) -> Result<(), Memory> {
+    let (header, entries, pool, methods, _) = large;
+    file.append(header)?;
+    add(file, &ENTRY, *entries)?;
+    file.append(pool)?;
+    add(file, &METHOD, *methods)?;
+    file.append(&END)
+}
 
 const LARGE: [Large; 4] = [
     (&ENTRIES_OF_60, 16_384, &POOL_OF_60, 60, None),
@@ -175,13 +173,25 @@ const LARGE: [Large; 4] = [
     (&SLOTS_251, 1, &POOL_OF_251, 251, Some((14, 36))),
 ];
 
-#[test]
-fn a_large_file_has_its_fault(rt: HostRuntime) -> Result<(), Fail> {
-    for (header, entries, pool, methods, wanted) in &LARGE {
-        let file = assembled(rt.alloc(), header, *entries, pool, *methods)?;
-        let bytes = file.as_slice();
-        assert!(rt; bytes.len() <= MAX_TYPELIB);
-        assert!(rt; fault_of(bytes) == *wanted, "{methods} methods");
+/// The first fault of a large file.
+fn fault_of_large(rt: &impl Abort, alloc: Global, large: &Large) -> Option<(u8, u64)> {
+    let mut file = Bytes::new(alloc);
+    assemble(&mut file, large).expect(rt, "a file");
+    let bytes = file.as_slice();
+    assert!(rt; bytes.len() <= MAX_TYPELIB);
+    fault_of(bytes)
+}
+
+/// Each large file has its fault.
+fn check_large(rt: &impl Abort, alloc: Global, rows: &[Large]) {
+    for large in rows {
+        let (_, entries, _, methods, wanted) = large;
+        let found = fault_of_large(rt, alloc, large);
+        assert!(rt; found == *wanted, "{entries} entries, {methods} methods");
     }
-    Ok(())
+}
+
+#[test]
+fn a_large_file_has_its_fault(rt: HostRuntime) {
+    check_large(&rt, rt.alloc(), &LARGE);
 }

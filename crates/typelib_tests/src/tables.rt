@@ -5,8 +5,8 @@ use lib_model::{
     Body, Iface, IfaceFlags, Library, Method, MethodFlags, Param, ParamFlags, XType, table_of, tags,
 };
 use std::alloc::Global;
-use std::test::Fail;
-use xp_base::{Bytes, List, Memory};
+use std::process::Abort;
+use xp_base::{Bytes, List};
 
 /// A method, and the status and prototype that it has in the table.
 #[derive(Clone, Copy)]
@@ -121,42 +121,58 @@ const INTERFACES: [Rows; 2] = [
     },
 ];
 
-fn params_of(alloc: Global, row: &Row) -> Result<List<Param>, Memory> {
+fn bytes_of(rt: &impl Abort, alloc: Global, bytes: &[u8]) -> Bytes {
+    Bytes::copy(alloc, bytes).expect(rt, "bytes")
+}
+
+fn params_of(rt: &impl Abort, alloc: Global, row: &Row) -> List<Param> {
     let mut params = List::new(alloc);
     for param in row.params {
-        params.push(*param)?;
+        params.push(*param).expect(rt, "parameters");
     }
-    Ok(params)
+    params
 }
 
-fn methods_of(alloc: Global, rows: &[Row]) -> Result<List<Method>, Memory> {
+fn method_of(rt: &impl Abort, alloc: Global, row: &Row) -> Method {
+    Method {
+        name: bytes_of(rt, alloc, row.name),
+        flags: MethodFlags { bits: row.flags },
+        params: params_of(rt, alloc, row),
+    }
+}
+
+fn methods_of(rt: &impl Abort, alloc: Global, rows: &[Row]) -> List<Method> {
     let mut methods = List::new(alloc);
     for row in rows {
-        methods.push(Method {
-            name: Bytes::copy(alloc, row.name)?,
-            flags: MethodFlags { bits: row.flags },
-            params: params_of(alloc, row)?,
-        })?;
+        methods
+            .push(method_of(rt, alloc, row))
+            .expect(rt, "methods");
     }
-    Ok(methods)
+    methods
 }
 
-fn library_of(alloc: Global, interfaces: &[Rows]) -> Result<Library, Memory> {
+fn iface_of(rt: &impl Abort, alloc: Global, rows: &Rows) -> Iface {
+    Iface {
+        name: bytes_of(rt, alloc, rows.name),
+        namespace: None,
+        iid: rows.iid,
+        body: Some(Body {
+            parent: rows.parent,
+            methods: methods_of(rt, alloc, rows.methods),
+            constants: List::new(alloc),
+            flags: IfaceFlags::SCRIPTABLE,
+        }),
+    }
+}
+
+fn library_of(rt: &impl Abort, alloc: Global, interfaces: &[Rows]) -> Library {
     let mut ifaces = List::new(alloc);
     for rows in interfaces {
-        ifaces.push(Iface {
-            name: Bytes::copy(alloc, rows.name)?,
-            namespace: None,
-            iid: rows.iid,
-            body: Some(Body {
-                parent: rows.parent,
-                methods: methods_of(alloc, rows.methods)?,
-                constants: List::new(alloc),
-                flags: IfaceFlags::SCRIPTABLE,
-            }),
-        })?;
+        ifaces
+            .push(iface_of(rt, alloc, rows))
+            .expect(rt, "interfaces");
     }
-    Ok(Library { ifaces })
+    Library { ifaces }
 }
 
 /// Whether a slot is that of its row.
@@ -181,13 +197,17 @@ fn has_rows(iface: &TableIface, rows: &Rows) -> bool {
         && iface.slots.len() == rows.methods.len()
 }
 
-#[test]
-fn the_table_has_the_interfaces_and_their_own_slots(rt: HostRuntime) -> Result<(), Fail> {
-    let library = library_of(rt.alloc(), &INTERFACES)?;
-    let table = table_of(rt.alloc(), &library)?;
-    assert!(rt; table.ifaces.len() == INTERFACES.len());
-    for (iface, rows) in table.ifaces.as_slice().iter().zip(&INTERFACES) {
+/// Interfaces have their rows.
+fn check_interfaces(rt: &impl Abort, ifaces: &[TableIface], interfaces: &[Rows]) {
+    assert!(rt; ifaces.len() == interfaces.len());
+    for (iface, rows) in ifaces.iter().zip(interfaces) {
         assert!(rt; has_rows(iface, rows), "of {:?}", rows.name);
     }
-    Ok(())
+}
+
+#[test]
+fn the_table_has_the_interfaces_and_their_own_slots(rt: HostRuntime) {
+    let library = library_of(&rt, rt.alloc(), &INTERFACES);
+    let table = table_of(rt.alloc(), &library).expect(&rt, "a table");
+    check_interfaces(&rt, table.ifaces.as_slice(), &INTERFACES);
 }

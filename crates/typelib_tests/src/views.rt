@@ -1,10 +1,9 @@
 //! What the views of a typelib hand out, worked out by hand.
 
 use call_model::{CType, MemberKind, Note, Pass, ProtoArg, Status};
-use descriptor_reader::{BadTypelib, ConstView, IfaceView, MethodView, Typelib};
+use descriptor_reader::{ConstView, IfaceView, MethodView, Typelib};
 use std::alloc::{AllocError, Global};
 use std::process::Abort;
-use std::test::Fail;
 use xp_base::ConstKind;
 
 /// Three interfaces. nsIA has the attribute f of 32 bits, which is only read, the method f of one
@@ -28,8 +27,8 @@ const FAMILY: [u8; 205] = [
 ];
 
 /// The typelib of the family.
-fn family() -> Result<Typelib<'static>, BadTypelib> {
-    Typelib::check(&FAMILY)
+fn family(rt: &impl Abort) -> Typelib<'static> {
+    Typelib::check(&FAMILY).expect(rt, "a typelib")
 }
 
 /// The identifier that ends in this byte, behind zeros.
@@ -39,7 +38,7 @@ fn iid(last: u8) -> [u8; 16] {
 
 /// What was found in the family is what was wanted.
 fn check(rt: &impl Abort, of: &str, found: &str, wanted: &str) {
-    assert_eq!(rt; found, wanted, "of {of}");
+    assert!(rt; found == wanted, "of {of}: {found}");
 }
 
 /// A name, the last byte of an identifier, and the numbers of the interfaces that have them.
@@ -51,22 +50,20 @@ const NUMBERS: [(&str, u8, &str); 4] = [
 ];
 
 /// The numbers of the interfaces of this name and of this identifier.
-fn numbers(alloc: Global, name: &str, last: u8) -> Result<String, Fail> {
-    let lib = family()?;
+fn numbers(alloc: Global, lib: &Typelib<'_>, name: &str, last: u8) -> Result<String, AllocError> {
     let named = lib.find(name.as_bytes());
     let identified = lib.find_iid(&iid(last));
-    Ok(format!(in alloc; "{named:?} {identified:?}")?)
+    format!(in alloc; "{named:?} {identified:?}")
 }
 
 #[test]
-fn interfaces_are_found(rt: HostRuntime) -> Result<(), Fail> {
-    let lib = family()?;
+fn interfaces_are_found(rt: HostRuntime) {
+    let lib = family(&rt);
     assert!(rt; lib.iface_count() == 3);
     for (name, last, wanted) in &NUMBERS {
-        let found = numbers(rt.alloc(), name, *last)?;
+        let found = numbers(rt.alloc(), &lib, name, *last).expect(&rt, name);
         check(&rt, name, found.as_str(), wanted);
     }
-    Ok(())
 }
 
 /// The number of an interface, a kind and a name, and the slot of that member.
@@ -83,21 +80,18 @@ const MEMBERS: [(u16, MemberKind, &str, Option<u16>); 9] = [
 ];
 
 /// The slot of the member of this kind and name, of this interface or an ancestor of it.
-fn slot_of(number: u16, kind: MemberKind, name: &str) -> Result<Option<u16>, BadTypelib> {
-    let lib = family()?;
-    match lib.find_method(number, kind, name.as_bytes()) {
-        Some(method) => Ok(Some(method.slot())),
-        None => Ok(None),
-    }
+fn slot_of(lib: &Typelib<'_>, number: u16, kind: MemberKind, name: &str) -> Option<u16> {
+    let method = lib.find_method(number, kind, name.as_bytes())?;
+    Some(method.slot())
 }
 
 #[test]
-fn members_are_found_in_ancestors(rt: HostRuntime) -> Result<(), Fail> {
+fn members_are_found_in_ancestors(rt: HostRuntime) {
+    let lib = family(&rt);
     for (number, kind, name, wanted) in &MEMBERS {
-        let found = slot_of(*number, *kind, name)?;
+        let found = slot_of(&lib, *number, *kind, name);
         assert!(rt; found == *wanted, "{number} {kind:?} {name}");
     }
-    Ok(())
 }
 
 /// A name, a kind, and how many parameters and positions.
@@ -122,22 +116,20 @@ fn is_method(method: &MethodView<'_>, slot: u16, signature: &Signature) -> bool 
 }
 
 /// Whether the slot of nsIB has the method.
-fn has_method(slot: u16, signature: &Signature) -> Result<bool, BadTypelib> {
-    let lib = family()?;
+fn has_method(lib: &Typelib<'_>, slot: u16, signature: &Signature) -> bool {
     match lib.method_at(2, slot) {
-        Some(method) => Ok(is_method(&method, slot, signature)),
-        None => Ok(false),
+        Some(method) => is_method(&method, slot, signature),
+        None => false,
     }
 }
 
 #[test]
-fn slots_hold_the_methods_of_ancestors(rt: HostRuntime) -> Result<(), Fail> {
+fn slots_hold_the_methods_of_ancestors(rt: HostRuntime) {
+    let lib = family(&rt);
     for (slot, signature) in SLOTS.iter().enumerate() {
-        assert!(rt; has_method(slot as u16, signature)?, "slot {slot}");
+        assert!(rt; has_method(&lib, slot as u16, signature), "slot {slot}");
     }
-    let lib = family()?;
     assert!(rt; lib.method_at(2, 3).is_none() && lib.method_at(3, 0).is_none());
-    Ok(())
 }
 
 /// Whether the own methods of an interface stand in the slots from `first` to `end`.
@@ -153,11 +145,10 @@ fn has_own_slots(view: &IfaceView<'_>, first: u16, end: u16) -> bool {
 }
 
 /// The same of the interface of this number.
-fn owns_slots(number: u16, first: u16, end: u16) -> Result<bool, BadTypelib> {
-    let lib = family()?;
+fn owns_slots(lib: &Typelib<'_>, number: u16, first: u16, end: u16) -> bool {
     match lib.iface(number) {
-        Some(view) => Ok(has_own_slots(&view, first, end)),
-        None => Ok(false),
+        Some(view) => has_own_slots(&view, first, end),
+        None => false,
     }
 }
 
@@ -165,11 +156,11 @@ fn owns_slots(number: u16, first: u16, end: u16) -> Result<bool, BadTypelib> {
 const OWN_SLOTS: [(u16, u16, u16); 3] = [(1, 0, 2), (2, 2, 3), (3, 0, 0)];
 
 #[test]
-fn own_methods_are_listed_in_their_slots(rt: HostRuntime) -> Result<(), Fail> {
+fn own_methods_are_listed_in_their_slots(rt: HostRuntime) {
+    let lib = family(&rt);
     for (number, first, end) in &OWN_SLOTS {
-        assert!(rt; owns_slots(*number, *first, *end)?, "{number}");
+        assert!(rt; owns_slots(&lib, *number, *first, *end), "{number}");
     }
-    Ok(())
 }
 
 /// The name, the kind and the value of each constant of nsIA.
@@ -204,14 +195,10 @@ fn has_second(view: &IfaceView<'_>) -> bool {
 }
 
 #[test]
-fn constants_are_read(rt: HostRuntime) -> Result<(), Fail> {
-    let lib = family()?;
-    let are_there = match lib.iface(1) {
-        Some(view) => has_constants(&view) && has_second(&view),
-        None => false,
-    };
-    assert!(rt; are_there);
-    Ok(())
+fn constants_are_read(rt: HostRuntime) {
+    let lib = family(&rt);
+    let view = lib.iface(1).expect(&rt, "nsIA");
+    assert!(rt; has_constants(&view) && has_second(&view));
 }
 
 /// An argument of 32 bits that is passed by its value.
@@ -266,12 +253,8 @@ fn has_positions(method: &MethodView<'_>) -> bool {
 }
 
 #[test]
-fn added_arguments_stand_before_the_value(rt: HostRuntime) -> Result<(), Fail> {
-    let lib = family()?;
-    let are_there = match lib.method_at(2, 2) {
-        Some(method) => has_args(&method) && has_positions(&method),
-        None => false,
-    };
-    assert!(rt; are_there);
-    Ok(())
+fn added_arguments_stand_before_the_value(rt: HostRuntime) {
+    let lib = family(&rt);
+    let method = lib.method_at(2, 2).expect(&rt, "g");
+    assert!(rt; has_args(&method) && has_positions(&method));
 }

@@ -1,7 +1,6 @@
 //! The bytes that are written for libraries.
 
 use crate::examples::{Example, library_of};
-use std::test::Fail;
 use typelib_writer::{WriteError, write};
 use xp_base::Bytes;
 
@@ -42,11 +41,10 @@ fn is_typelib(written: &Result<Bytes, WriteError>, typelib: Option<&[u8]>) -> bo
 }
 
 #[test]
-fn libraries_are_written(rt: HostRuntime) -> Result<(), Fail> {
+fn libraries_are_written(rt: HostRuntime) {
     for (example, typelib) in &EXAMPLES {
-        let library = library_of(rt.alloc(), *example)?;
+        let library = library_of(rt.alloc(), *example).expect(&rt, "a library");
         let written = write(rt.alloc(), &library);
         assert!(rt; is_typelib(&written, *typelib), "of {example:?}");
     }
-    Ok(())
 }
