@@ -2,11 +2,11 @@
 
 ghost use Rattle.std.specs.Prelude.{None};
 
+use crate::cases::check;
 use idl_grammar::ClosedFile;
 use include_closure::{ClosureError, closure};
 use std::alloc::Global;
 use std::process::Abort;
-use std::test::Fail;
 use xp_base::{
     Bytes, CalmSource, Fetched, List, MAX_TEXT, MemSource, Memory, Source, SourceError, dec_read,
     dec_text,
@@ -48,42 +48,45 @@ fn add_fault(alloc: Global, to: &mut Bytes, fault: ClosureError) -> Result<(), M
     to.append(line.as_slice())
 }
 
-/// What the closure of the roots comes to, in words.
-fn outcome<S: Source>(
-    rt: &impl Abort,
-    alloc: Global,
-    files: &mut S,
-    roots: &[&[u8]],
-) -> Result<Bytes, Memory> {
-    let roots = names_of(alloc, roots)?;
-    assert!(rt; roots.len() <= 65_535);
-    let mut text = Bytes::new(alloc);
-    match closure(alloc, files, &roots) {
-        Ok(list) => add_names(&mut text, list.as_slice())?,
-        Err(fault) => add_fault(alloc, &mut text, fault)?,
-    }
-    Ok(text)
+fn bytes_of(rt: &impl Abort, alloc: Global, bytes: &[u8]) -> Bytes {
+    Bytes::copy(alloc, bytes).expect(rt, "bytes")
 }
 
-fn source_of(alloc: Global, files: &[(&[u8], &[u8])]) -> Result<CalmSource, Memory> {
-    let mut source = CalmSource::new(alloc);
-    for (name, text) in files {
-        source.add(*name, *text)?;
-    }
-    Ok(source)
-}
-
-fn names_of(alloc: Global, names: &[&[u8]]) -> Result<List<Bytes>, Memory> {
+fn names_of(rt: &impl Abort, alloc: Global, names: &[&[u8]]) -> List<Bytes> {
     let mut list = List::new(alloc);
     for name in names {
-        list.push(Bytes::copy(alloc, *name)?)?;
+        list.push(bytes_of(rt, alloc, *name)).expect(rt, "names");
     }
-    Ok(list)
+    list
 }
 
-/// What was found of these files is what was wanted.
-fn check(rt: &impl Abort, name: &str, found: &[u8], wanted: &[u8]) {
-    assert_eq!(rt; found, wanted, "of {name}");
+/// Adds what a closure comes to, in words.
+fn add_closure(
+    alloc: Global,
+    to: &mut Bytes,
+    closed: Result<List<ClosedFile>, ClosureError>,
+) -> Result<(), Memory> {
+    match closed {
+        Ok(list) => add_names(to, list.as_slice()),
+        Err(fault) => add_fault(alloc, to, fault),
+    }
+}
+
+/// What the closure of the roots comes to, in words.
+fn outcome<S: Source>(rt: &impl Abort, alloc: Global, files: &mut S, roots: &[&[u8]]) -> Bytes {
+    let roots = names_of(rt, alloc, roots);
+    assert!(rt; roots.len() <= 65_535);
+    let mut text = Bytes::new(alloc);
+    add_closure(alloc, &mut text, closure(alloc, files, &roots)).expect(rt, "a text");
+    text
+}
+
+fn source_of(rt: &impl Abort, alloc: Global, files: &[(&[u8], &[u8])]) -> CalmSource {
+    let mut source = CalmSource::new(alloc);
+    for (name, text) in files {
+        source.add(*name, *text).expect(rt, "a source");
+    }
+    source
 }
 
 /// Files, and what their closures come to.
@@ -164,38 +167,45 @@ const ROWS: [Row<'static>; 11] = [
     },
 ];
 
-#[test]
-fn closures_come_to_these(rt: HostRuntime) -> Result<(), Fail> {
-    let alloc = rt.alloc();
-    for row in &ROWS {
-        let mut files = source_of(alloc, row.files)?;
-        let found = outcome(&rt, alloc, &mut files, row.roots)?;
-        check(&rt, row.name, found.as_slice(), row.outcome);
+/// Each closure comes to its outcome.
+fn check_rows(rt: &impl Abort, alloc: Global, rows: &[Row<'_>]) {
+    for row in rows {
+        let mut files = source_of(rt, alloc, row.files);
+        let found = outcome(rt, alloc, &mut files, row.roots);
+        check(rt, row.name.as_bytes(), found.as_slice(), row.outcome);
     }
-    Ok(())
 }
 
 #[test]
-fn a_source_fails_at_its_second_fetch(rt: HostRuntime) -> Result<(), Fail> {
-    let alloc = rt.alloc();
-    let mut fails = List::new(alloc);
-    fails.push(2)?;
-    let mut files = MemSource::new(alloc, fails);
-    files.add(b"a", b"#include \"b\"")?;
-    files.add(b"b", b"")?;
-    let found = outcome(&rt, alloc, &mut files, &[b"a"])?;
-    check(&rt, "a fetch that fails", found.as_slice(), b"failed b:0");
-    Ok(())
+fn closures_come_to_these(rt: HostRuntime) {
+    check_rows(&rt, rt.alloc(), &ROWS);
 }
 
-/// Spaces.
-fn spaces(alloc: Global, count: usize) -> Result<Bytes, Memory> {
+/// A source of a file that includes another, the second fetch of which fails.
+fn failing_source(rt: &impl Abort, alloc: Global) -> MemSource {
+    let mut fails = List::new(alloc);
+    fails.push(2).expect(rt, "a number");
+    let mut files = MemSource::new(alloc, fails);
+    files.add(b"a", b"#include \"b\"").expect(rt, "a");
+    files.add(b"b", b"").expect(rt, "b");
+    files
+}
+
+#[test]
+fn a_source_fails_at_its_second_fetch(rt: HostRuntime) {
+    let mut files = failing_source(&rt, rt.alloc());
+    let found = outcome(&rt, rt.alloc(), &mut files, &[b"a"]);
+    check(&rt, b"a fetch that fails", found.as_slice(), b"failed b:0");
+}
+
+/// So many lines of 1024 spaces.
+fn spaces(rt: &impl Abort, alloc: Global, count: usize) -> Bytes {
     let line = [b' '; 1024];
     let mut text = Bytes::new(alloc);
     for _ in 0..count {
-        text.append(&line)?;
+        text.append(&line).expect(rt, "spaces");
     }
-    Ok(text)
+    text
 }
 
 /// The names of files, of which sixteen are as long as a file may be.
@@ -204,31 +214,38 @@ const SEVENTEEN: [&[u8]; 17] = [
     b"q",
 ];
 
-#[test]
-fn sixteen_mebibytes_are_the_most_together(rt: HostRuntime) -> Result<(), Fail> {
-    let alloc = rt.alloc();
-    let full = spaces(alloc, 1024)?;
-    assert!(rt; full.as_slice().len() == MAX_TEXT);
-    let mut files = CalmSource::new(alloc);
+/// Adds as much text to each of these files but the last, which has one byte.
+fn add_full(rt: &impl Abort, files: &mut CalmSource, text: &[u8]) {
+    assert!(rt; text.len() == MAX_TEXT);
     for name in &SEVENTEEN {
-        files.add(*name, full.as_slice())?;
+        files.add(*name, text).expect(rt, "a full file");
     }
-    files.add(b"q", b" ")?;
-    let found = outcome(&rt, alloc, &mut files, &SEVENTEEN)?;
-    check(&rt, "one byte too many", found.as_slice(), b"long q:0");
-    Ok(())
+    files.add(b"q", b" ").expect(rt, "one byte");
 }
 
 #[test]
-fn a_file_has_at_most_a_mebibyte(rt: HostRuntime) -> Result<(), Fail> {
-    let alloc = rt.alloc();
-    let mut text = spaces(alloc, 1024)?;
-    text.append(b" ")?;
+fn sixteen_mebibytes_are_the_most_together(rt: HostRuntime) {
+    let full = spaces(&rt, rt.alloc(), 1024);
+    let mut files = CalmSource::new(rt.alloc());
+    add_full(&rt, &mut files, full.as_slice());
+    let found = outcome(&rt, rt.alloc(), &mut files, &SEVENTEEN);
+    check(&rt, b"one byte too many", found.as_slice(), b"long q:0");
+}
+
+/// A source of a file of a mebibyte and a byte.
+fn too_long(rt: &impl Abort, alloc: Global) -> CalmSource {
+    let mut text = spaces(rt, alloc, 1024);
+    text.append(b" ").expect(rt, "one more");
     let mut files = CalmSource::new(alloc);
-    files.add(b"a", text.as_slice())?;
-    let found = outcome(&rt, alloc, &mut files, &[b"a"])?;
-    check(&rt, "a mebibyte and a byte", found.as_slice(), b"long a:0");
-    Ok(())
+    files.add(b"a", text.as_slice()).expect(rt, "a file");
+    files
+}
+
+#[test]
+fn a_file_has_at_most_a_mebibyte(rt: HostRuntime) {
+    let mut files = too_long(&rt, rt.alloc());
+    let found = outcome(&rt, rt.alloc(), &mut files, &[b"a"]);
+    check(&rt, b"a mebibyte and a byte", found.as_slice(), b"long a:0");
 }
 
 /// A source of many files, none of which is kept: a chain, in which each file includes the next; or
@@ -249,22 +266,24 @@ fn add_include(alloc: Global, text: &mut Bytes, number: u32) -> Result<(), Memor
     text.append(b"\"\n")
 }
 
-/// The text of the last of `MANY` files, which includes all the others.
-fn all_includes(alloc: Global) -> Result<Bytes, Memory> {
-    let mut text = Bytes::new(alloc);
+/// Adds the text of the last of `MANY` files, which includes all the others.
+fn add_includes(alloc: Global, text: &mut Bytes) -> Result<(), Memory> {
     for number in 0..MANY {
-        add_include(alloc, &mut text, number)?;
+        add_include(alloc, text, number)?;
     }
-    Ok(text)
+    Ok(())
 }
 
-/// The text of a file of a chain, the first of which includes nothing.
-fn one_include(alloc: Global, number: u32) -> Result<Bytes, Memory> {
-    let mut text = Bytes::new(alloc);
-    if number > 0 {
-        add_include(alloc, &mut text, number - 1)?;
+/// Adds the text of a file of this number: in a chain it includes the one before, and else only the
+/// last includes any.
+fn add_text(alloc: Global, text: &mut Bytes, number: u32, chain: bool) -> Result<(), Memory> {
+    if !chain && number == MANY {
+        add_includes(alloc, text)
+    } else if chain && number > 0 {
+        add_include(alloc, text, number - 1)
+    } else {
+        Ok(())
     }
-    Ok(text)
 }
 
 /// The number that a name is; 0 for any other.
@@ -281,37 +300,35 @@ impl Source for Many {
     ghost faults = { λ _. 0 };
 
     fn fetch(&mut self, alloc: Global, name: &[u8], _limit: usize) -> Result<Fetched, SourceError> {
-        let number = number_of(name);
-        let text = if self.chain {
-            one_include(alloc, number)?
-        } else if number == MANY {
-            all_includes(alloc)?
-        } else {
-            Bytes::new(alloc)
-        };
+        let mut text = Bytes::new(alloc);
+        add_text(alloc, &mut text, number_of(name), self.chain)?;
         Ok(Fetched::Found(text))
     }
 }
 
+/// Adds a number behind a space.
+fn add_number(alloc: Global, text: &mut Bytes, number: u32) -> Result<(), Memory> {
+    let name = dec_text(alloc, number as i128)?;
+    text.append(b" ")?;
+    text.append(name.as_slice())
+}
+
 /// The names of all of these files, each behind a space.
-fn all_names(alloc: Global) -> Result<Bytes, Memory> {
+fn all_names(rt: &impl Abort, alloc: Global) -> Bytes {
     let mut text = Bytes::new(alloc);
     for number in 0..MANY + 1 {
-        let name = dec_text(alloc, number as i128)?;
-        text.append(b" ")?;
-        text.append(name.as_slice())?;
+        add_number(alloc, &mut text, number).expect(rt, "a name");
     }
-    Ok(text)
+    text
 }
 
 #[test]
-fn many_includes(rt: HostRuntime) -> Result<(), Fail> {
-    let wanted = all_names(rt.alloc())?;
+fn many_includes(rt: HostRuntime) {
+    let wanted = all_names(&rt, rt.alloc());
     for chain in &[true, false] {
         let mut files = Many { chain: *chain };
-        let found = outcome(&rt, rt.alloc(), &mut files, &[b"20000"])?;
+        let found = outcome(&rt, rt.alloc(), &mut files, &[b"20000"]);
         let is_told = found.as_slice() == wanted.as_slice();
         assert!(rt; is_told, "in a chain: {chain}");
     }
-    Ok(())
 }

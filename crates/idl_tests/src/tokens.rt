@@ -1,37 +1,45 @@
 //! The tokens of texts, and where texts have none.
 
-use idl_lexer::{LexError, Token, lex};
+use crate::cases::check;
+use idl_lexer::{LexError, Token, Tokens, lex};
 use std::alloc::{AllocError, Global};
 use std::process::Abort;
-use std::test::Fail;
 use xp_base::MAX_TEXT;
 
-/// Tokens in words: of each its kind, its first byte, the byte behind it, and its line.
-fn listed(alloc: Global, tokens: &[Token]) -> Result<String, AllocError> {
-    let mut words = String::new(alloc);
+/// Adds tokens in words: of each its kind, its first byte, the byte behind it, and its line.
+fn add_tokens(words: &mut String, tokens: &[Token]) -> Result<(), AllocError> {
     for token in tokens {
         let (kind, start, end, line) = (token.kind, token.start, token.end, token.line);
-        words.push_str(format!(in alloc; "{kind:?} {start} {end} {line};")?.as_str())?;
+        write!(words, "{kind:?} {start} {end} {line};")?;
     }
-    Ok(words)
+    Ok(())
 }
 
-/// What comes of a text, in words: its tokens, or the place at which no piece begins and its line.
-fn told(rt: &impl Abort, alloc: Global, text: &[u8]) -> Result<String, Fail> {
-    assert!(rt; text.len() <= MAX_TEXT);
-    match lex(alloc, text) {
+/// Adds what comes of a text, in words: its tokens, or the place at which no piece begins and its
+/// line.
+fn tell(
+    rt: &impl Abort,
+    words: &mut String,
+    text: &[u8],
+    read: &Result<Tokens, LexError>,
+) -> Result<(), AllocError> {
+    match read {
         Ok(tokens) => {
             assert!(rt; tokens.source.as_slice() == text, "the source of {text:?}");
-            Ok(listed(alloc, tokens.list.as_slice())?)
+            add_tokens(words, tokens.list.as_slice())
         }
-        Err(LexError::At { at, line }) => Ok(format!(in alloc; "none at {at} {line}")?),
-        Err(LexError::Memory) => Err(LexError::Memory)?,
+        Err(LexError::At { at, line }) => write!(words, "none at {at} {line}"),
+        Err(LexError::Memory) => write!(words, "memory"),
     }
 }
 
-/// What was found of a text is what was wanted.
-fn check(rt: &impl Abort, text: &[u8], found: &str, wanted: &str) {
-    assert_eq!(rt; found, wanted, "of {text:?}");
+/// The same of a text alone.
+fn told(rt: &impl Abort, alloc: Global, text: &[u8]) -> String {
+    assert!(rt; text.len() <= MAX_TEXT);
+    let read = lex(alloc, text);
+    let mut words = String::new(alloc);
+    tell(rt, &mut words, text, &read).expect(rt, "a text");
+    words
 }
 
 /// Texts, each with what comes of it.
@@ -88,11 +96,15 @@ Mark 76 77 3;Mark 77 78 3;Mark 79 80 4;Mark 80 81 4;",
     (&[b'_'; 256], "none at 0 1"),
 ];
 
-#[test]
-fn texts_have_these_tokens(rt: HostRuntime) -> Result<(), Fail> {
-    for (text, wanted) in &TEXTS {
-        let found = told(&rt, rt.alloc(), text)?;
-        check(&rt, text, found.as_str(), wanted);
+/// Each text comes to what is wanted of it.
+fn check_texts(rt: &impl Abort, alloc: Global, texts: &[(&[u8], &str)]) {
+    for (text, wanted) in texts {
+        let found = told(rt, alloc, text);
+        check(rt, text, found.as_bytes(), wanted.as_bytes());
     }
-    Ok(())
+}
+
+#[test]
+fn texts_have_these_tokens(rt: HostRuntime) {
+    check_texts(&rt, rt.alloc(), &TEXTS);
 }

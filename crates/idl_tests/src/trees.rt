@@ -1,12 +1,12 @@
 //! The trees of texts, and the faults of those that have none.
 
+use crate::cases::check;
 use crate::outline::outline;
 use idl_grammar::{SyntaxError, parse};
 use idl_lexer::{Kind, Token, Tokens, lex};
 use std::alloc::Global;
 use std::process::Abort;
-use std::test::Fail;
-use xp_base::{Bytes, List, MAX_TEXT};
+use xp_base::{Bytes, List, MAX_TEXT, Memory};
 
 /// A text with every keyword and every mark.
 const EVERY_SYMBOL: &[u8] = b"typedef unsigned long a;
@@ -32,30 +32,31 @@ const OUTLINE_OF_EVERY_SYMBOL: &[u8] = b"
 Inward Double e, Inward Char f, Inward WChar g, Inward CString h, Inward WString i, Inward q j
 10: method Long t";
 
+/// A fault in words: its token, and its line.
+fn told_fault(rt: &impl Abort, alloc: Global, fault: SyntaxError) -> Bytes {
+    let words = match fault {
+        SyntaxError::At { at, line } => format!(in alloc; "fault at {at} {line}"),
+        SyntaxError::Memory => format!(in alloc; "memory"),
+    };
+    let words = words.expect(rt, "a text");
+    Bytes::copy(alloc, words.as_bytes()).expect(rt, "a text")
+}
+
 /// What comes of tokens, in words: the outline of their tree, or the token of their fault and its
 /// line.
-fn told_of(rt: &impl Abort, alloc: Global, tokens: &Tokens) -> Result<Bytes, Fail> {
+fn told_of(rt: &impl Abort, alloc: Global, tokens: &Tokens) -> Bytes {
     assert!(rt; tokens.list.len() <= MAX_TEXT);
     match parse(alloc, tokens) {
-        Ok(file) => Ok(outline(alloc, &file)?),
-        Err(SyntaxError::At { at, line }) => {
-            let fault = format!(in alloc; "fault at {at} {line}")?;
-            Ok(Bytes::copy(alloc, fault.as_bytes())?)
-        }
-        Err(SyntaxError::Memory) => Err(SyntaxError::Memory)?,
+        Ok(file) => outline(alloc, &file).expect(rt, "an outline"),
+        Err(fault) => told_fault(rt, alloc, fault),
     }
 }
 
 /// What comes of a text.
-fn told(rt: &impl Abort, alloc: Global, text: &[u8]) -> Result<Bytes, Fail> {
+fn told(rt: &impl Abort, alloc: Global, text: &[u8]) -> Bytes {
     assert!(rt; text.len() <= MAX_TEXT);
-    let tokens = lex(alloc, text)?;
+    let tokens = lex(alloc, text).expect(rt, "tokens");
     told_of(rt, alloc, &tokens)
-}
-
-/// What was found of a text is what was wanted.
-fn check(rt: &impl Abort, text: &[u8], found: &[u8], wanted: &[u8]) {
-    assert_eq!(rt; found, wanted, "of {text:?}");
 }
 
 /// Texts, each with what comes of it.
@@ -95,26 +96,29 @@ y(z)] interface i : b { };",
     (b"interface a : b;", b"fault at 4 1"),
 ];
 
-#[test]
-fn texts_have_these_trees(rt: HostRuntime) -> Result<(), Fail> {
-    for (text, wanted) in &TEXTS {
-        let found = told(&rt, rt.alloc(), text)?;
-        check(&rt, text, found.as_slice(), wanted);
+/// Each text comes to what is wanted of it.
+fn check_texts(rt: &impl Abort, alloc: Global, texts: &[(&[u8], &[u8])]) {
+    for (text, wanted) in texts {
+        let found = told(rt, alloc, text);
+        check(rt, text, found.as_slice(), wanted);
     }
-    Ok(())
 }
 
-/// A constant whose value stands behind so many open parentheses, the last of which are closed
+#[test]
+fn texts_have_these_trees(rt: HostRuntime) {
+    check_texts(&rt, rt.alloc(), &TEXTS);
+}
+
+/// Adds a constant whose value stands behind so many open parentheses, the last of which are closed
 /// again.
-fn deep(alloc: Global, open: usize, close: usize) -> Result<Bytes, Fail> {
+fn add_deep(text: &mut Bytes, open: usize, close: usize) -> Result<(), Memory> {
     let parentheses = [b'('; 65];
     let closed = [b')'; 65];
-    let mut text = Bytes::copy(alloc, b"interface nsIA { const short k =")?;
+    text.append(b"interface nsIA { const short k =")?;
     text.append(parentheses.get(..open).unwrap_or(&[]))?;
     text.append(b"-1")?;
     text.append(closed.get(..close).unwrap_or(&[]))?;
-    text.append(b"; };")?;
-    Ok(text)
+    text.append(b"; };")
 }
 
 /// How many parentheses are open, how many of them are closed again, and what comes of the text.
@@ -125,13 +129,13 @@ const DEPTHS: [(usize, usize, &[u8]); 3] = [
 ];
 
 #[test]
-fn sixty_four_may_be_open(rt: HostRuntime) -> Result<(), Fail> {
+fn sixty_four_may_be_open(rt: HostRuntime) {
     for (open, close, wanted) in &DEPTHS {
-        let text = deep(rt.alloc(), *open, *close)?;
-        let found = told(&rt, rt.alloc(), text.as_slice())?;
+        let mut text = Bytes::new(rt.alloc());
+        add_deep(&mut text, *open, *close).expect(&rt, "a text");
+        let found = told(&rt, rt.alloc(), text.as_slice());
         check(&rt, text.as_slice(), found.as_slice(), wanted);
     }
-    Ok(())
 }
 
 /// Sources, the kind of a token that is made of so many bytes of each, and what comes of it with a
@@ -156,20 +160,25 @@ fn token(kind: Kind, start: u32, end: u32) -> Token {
 }
 
 /// A token of so many bytes, and a mark of the byte behind it.
-fn made(alloc: Global, source: &[u8], kind: Kind, end: u32) -> Result<Tokens, Fail> {
+fn made(rt: &impl Abort, alloc: Global, source: &[u8], kind: Kind, end: u32) -> Tokens {
+    let source = Bytes::copy(alloc, source).expect(rt, "a source");
     let mut list = List::new(alloc);
-    list.push(token(kind, 0, end))?;
-    list.push(token(Kind::Mark, end, end.saturating_add(1)))?;
-    let source = Bytes::copy(alloc, source)?;
-    Ok(Tokens { source, list })
+    list.push(token(kind, 0, end)).expect(rt, "a token");
+    let mark = token(Kind::Mark, end, end.saturating_add(1));
+    list.push(mark).expect(rt, "a mark");
+    Tokens { source, list }
+}
+
+/// Each token comes to what is wanted of it.
+fn check_made(rt: &impl Abort, alloc: Global, rows: &[(&[u8], Kind, u32, &[u8])]) {
+    for (source, kind, end, wanted) in rows {
+        let tokens = made(rt, alloc, source, *kind, *end);
+        let found = told_of(rt, alloc, &tokens);
+        check(rt, source, found.as_slice(), wanted);
+    }
 }
 
 #[test]
-fn a_token_with_parts_is_spelled_as_its_kind(rt: HostRuntime) -> Result<(), Fail> {
-    for (source, kind, end, wanted) in &MADE {
-        let tokens = made(rt.alloc(), source, *kind, *end)?;
-        let found = told_of(&rt, rt.alloc(), &tokens)?;
-        check(&rt, source, found.as_slice(), wanted);
-    }
-    Ok(())
+fn a_token_with_parts_is_spelled_as_its_kind(rt: HostRuntime) {
+    check_made(&rt, rt.alloc(), &MADE);
 }
