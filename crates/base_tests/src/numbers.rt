@@ -1,8 +1,7 @@
 //! Numbers as text.
 
-use std::alloc::Global;
-use std::test::Fail;
-use xp_base::{Memory, dec_read, dec_text, hex_fixed, hex_read, hex_text};
+use std::process::Abort;
+use xp_base::{Bytes, Memory, dec_read, dec_text, hex_fixed, hex_read, hex_text};
 
 /// A text, and the number that it is in hexadecimal.
 const HEXADECIMAL: [(&str, Option<u64>); 7] = [
@@ -50,35 +49,32 @@ const DIGITS: [(u32, &str, &str, &str); 4] = [
     (0x80004001, "80004001", "80004001", "4001"),
 ];
 
-/// Whether the texts of a number are these.
-fn is_written(alloc: Global, row: &(u32, &str, &str, &str)) -> Result<bool, Memory> {
-    let (number, shortest, eight, low_four) = row;
-    let text = hex_text(alloc, u64::from(*number))?;
-    let whole = hex_fixed(alloc, u64::from(*number), 8)?;
-    let low_half = hex_fixed(alloc, u64::from(*number % 0x10000), 4)?;
-    Ok(
-        text.as_slice() == shortest.as_bytes()
-            && whole.as_slice() == eight.as_bytes()
-            && low_half.as_slice() == low_four.as_bytes(),
-    )
+/// A text is that of a number.
+fn check(rt: &impl Abort, text: Result<Bytes, Memory>, wanted: &str) {
+    let text = text.expect(rt, wanted);
+    assert!(rt; text.as_slice() == wanted.as_bytes(), "at {wanted}");
 }
 
 #[test]
-fn hexadecimal_is_written(rt: HostRuntime) -> Result<(), Fail> {
-    for row in &DIGITS {
-        assert!(rt; is_written(rt.alloc(), row)?, "at {}", row.0);
+fn hexadecimal_is_written(rt: HostRuntime) {
+    let alloc = rt.alloc();
+    for (number, shortest, eight, low_four) in &DIGITS {
+        check(&rt, hex_text(alloc, u64::from(*number)), shortest);
+        check(&rt, hex_fixed(alloc, u64::from(*number), 8), eight);
+        check(
+            &rt,
+            hex_fixed(alloc, u64::from(*number % 0x10000), 4),
+            low_four,
+        );
     }
-    Ok(())
 }
 
 /// A number, and its text in decimal.
 const NUMBERS: [(i128, &str); 3] = [(0, "0"), (42, "42"), (-2147483648, "-2147483648")];
 
 #[test]
-fn decimal_is_written(rt: HostRuntime) -> Result<(), Fail> {
+fn decimal_is_written(rt: HostRuntime) {
     for (number, wanted) in &NUMBERS {
-        let text = dec_text(rt.alloc(), *number)?;
-        assert!(rt; text.as_slice() == wanted.as_bytes(), "at {wanted}");
+        check(&rt, dec_text(rt.alloc(), *number), wanted);
     }
-    Ok(())
 }

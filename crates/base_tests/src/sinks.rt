@@ -3,8 +3,8 @@
 use std::alloc::Global;
 use std::fs::{self, File};
 use std::io::{self, Write};
-use std::test::Fail;
-use xp_base::{CalmSink, List, MemSink, Memory, Sink, StreamSink, put_all};
+use std::process::Abort;
+use xp_base::{CalmSink, List, MemSink, Sink, StreamSink, put_all};
 
 /// A piece that is put, and all that is written then.
 const PIECES: [(&str, &str); 4] = [
@@ -14,20 +14,19 @@ const PIECES: [(&str, &str); 4] = [
     (".", "all of it."),
 ];
 
+/// Whether a sink takes a piece whole, after which this is written.
+fn takes_whole(sink: &mut CalmSink, piece: &str, written: &str) -> bool {
+    matches!(sink.put(piece.as_bytes()), Ok(taken) if taken == piece.len())
+        && sink.written() == written.as_bytes()
+}
+
 #[test]
-fn calm_sinks_take_every_piece_whole(rt: HostRuntime) -> Result<(), Fail> {
+fn calm_sinks_take_every_piece_whole(rt: HostRuntime) {
     let mut sink = CalmSink::new(rt.alloc());
     for (piece, written) in &PIECES {
-        let taken = sink.put(piece.as_bytes())?;
-        let is_whole = taken == piece.len() && sink.written() == written.as_bytes();
-        assert!(rt; is_whole, "after {piece}");
+        assert!(rt; takes_whole(&mut sink, piece, written), "after {piece}");
     }
-    put_all(&mut sink, b"!")?;
-    assert!(rt;
-        sink.written() == b"all of it.!".as_slice(),
-        "after all pieces"
-    );
-    Ok(())
+    assert!(rt; put_all(&mut sink, b"!").is_ok() && sink.written() == b"all of it.!".as_slice());
 }
 
 /// The put of a byte that fails, whether `three` is taken whole, what is written then, and what
@@ -40,37 +39,40 @@ const SCRIPTED: [(u64, bool, &str, &str); 4] = [
 ];
 
 /// A sink that takes one byte a put, the put of this number of which fails.
-fn scripted(alloc: Global, fail: u64) -> Result<MemSink, Memory> {
+fn scripted(rt: &impl Abort, alloc: Global, fail: u64) -> MemSink {
     let mut fails = List::new(alloc);
-    fails.push(fail)?;
-    Ok(MemSink::new(alloc, 1, fails))
+    fails.push(fail).expect(rt, "a number");
+    MemSink::new(alloc, 1, fails)
+}
+
+/// Whether a sink takes all of a piece or not, as it is to, after which this is written.
+fn takes_all(sink: &mut MemSink, piece: &str, whole: bool, written: &str) -> bool {
+    put_all(sink, piece.as_bytes()).is_ok() == whole && sink.written() == written.as_bytes()
 }
 
 #[test]
-fn scripted_sinks_fail_where_they_are_told_to(rt: HostRuntime) -> Result<(), Fail> {
+fn scripted_sinks_fail_where_they_are_told_to(rt: HostRuntime) {
     for (fail, whole, written, after) in &SCRIPTED {
-        let mut sink = scripted(rt.alloc(), *fail)?;
-        let is_whole = put_all(&mut sink, b"three").is_ok();
-        let is_told = is_whole == *whole && sink.written() == written.as_bytes();
-        assert!(rt; is_told, "failing at {fail}");
-        put_all(&mut sink, b"en")?;
-        assert!(rt; sink.written() == after.as_bytes(), "behind {fail}");
+        let mut sink = scripted(&rt, rt.alloc(), *fail);
+        let is_told = takes_all(&mut sink, "three", *whole, written);
+        assert!(rt;
+            is_told && takes_all(&mut sink, "en", true, after),
+            "failing at {fail}"
+        );
     }
-    Ok(())
 }
 
 #[test]
-fn streams_of_the_system_are_written(rt: HostRuntime) -> Result<(), Fail> {
+fn streams_of_the_system_are_written(rt: HostRuntime) {
     const PATH: &str = "base_tests_written";
-    let mut sink = StreamSink::new(File::create(&rt, PATH)?);
+    let mut sink = StreamSink::new(File::create(&rt, PATH).expect(&rt, PATH));
     for (piece, whole) in &PIECES {
-        put_all(&mut sink, piece.as_bytes())?;
-        let written = fs::read(&rt, PATH)?;
+        put_all(&mut sink, piece.as_bytes()).expect(&rt, piece);
+        let written = fs::read(&rt, PATH).expect(&rt, PATH);
         assert!(rt; written.as_slice() == whole.as_bytes(), "after {piece}");
     }
     drop(sink);
-    fs::remove_file(&rt, PATH)?;
-    Ok(())
+    fs::remove_file(&rt, PATH).expect(&rt, PATH);
 }
 
 /// Takes nothing.
@@ -101,14 +103,15 @@ fn takes<S: Sink>(sink: &mut S) -> bool {
 }
 
 #[test]
-fn streams_of_the_system_fail(rt: HostRuntime) -> Result<(), Fail> {
-    let full = File::options().write(true).open(&rt, "/dev/full")?;
-    assert!(rt; takes(&mut StreamSink::new(full)), "at a full device");
-    let mut stuck = StreamSink::new(Stuck);
-    assert!(rt; takes(&mut stuck), "at a stream that takes nothing");
-    assert!(rt;
-        stuck.put(b"").is_ok() && stuck.put(b"all").is_err(),
-        "one put"
-    );
-    Ok(())
+fn a_full_device_fails(rt: HostRuntime) {
+    let full = File::options().write(true).open(&rt, "/dev/full");
+    let mut sink = StreamSink::new(full.expect(&rt, "a full device"));
+    assert!(rt; takes(&mut sink));
+}
+
+#[test]
+fn a_stream_that_takes_nothing_fails(rt: HostRuntime) {
+    let mut sink = StreamSink::new(Stuck);
+    assert!(rt; takes(&mut sink));
+    assert!(rt; sink.put(b"").is_ok() && sink.put(b"all").is_err());
 }

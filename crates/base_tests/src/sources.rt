@@ -2,7 +2,7 @@
 
 use std::alloc::Global;
 use std::fs;
-use std::test::Fail;
+use std::process::Abort;
 use xp_base::{
     CalmSource, Fetched, FileSource, List, MAX_TYPELIB, MemSource, Memory, Source, SourceError,
 };
@@ -34,44 +34,33 @@ const FETCHES: [(&str, usize, Option<&str>); 4] = [
     ("b", 5, None),
 ];
 
-/// The first of these fetches that does not find what it is to find, as the number of its row.
-fn first_other<S: Source>(
+/// Each fetch finds what it is to find.
+fn check<S: Source>(
+    rt: &impl Abort,
     alloc: Global,
     source: &mut S,
     fetches: &[(&str, usize, Option<&str>)],
-) -> Result<Option<usize>, SourceError> {
-    for (row, (name, limit, want)) in fetches.iter().enumerate() {
-        let found = source.fetch(alloc, name.as_bytes(), (*limit).min(MAX_TYPELIB))?;
-        if !is_file(&found, *want) {
-            return Ok(Some(row));
-        }
+) {
+    for (name, limit, want) in fetches {
+        let fetched = source.fetch(alloc, name.as_bytes(), (*limit).min(MAX_TYPELIB));
+        let found = fetched.expect(rt, name);
+        assert!(rt; is_file(&found, *want), "{name}, up to {limit} bytes");
     }
-    Ok(None)
 }
 
 #[test]
-fn files_in_memory_are_found(rt: HostRuntime) -> Result<(), Fail> {
-    let mut source = scripted(rt.alloc())?;
+fn files_in_memory_are_found(rt: HostRuntime) {
+    let mut source = scripted(rt.alloc()).expect(&rt, "a source");
     let first = source.fetch(rt.alloc(), b"a", 5);
     assert!(rt; matches!(first, Err(SourceError::Failed)));
-    assert_eq!(rt;
-        first_other(rt.alloc(), &mut source, &FETCHES)?,
-        None,
-        "scripted"
-    );
-    Ok(())
+    check(&rt, rt.alloc(), &mut source, &FETCHES);
 }
 
 #[test]
-fn files_in_calm_memory_are_found(rt: HostRuntime) -> Result<(), Fail> {
+fn files_in_calm_memory_are_found(rt: HostRuntime) {
     let mut source = CalmSource::new(rt.alloc());
-    source.add(b"a", b"first")?;
-    assert_eq!(rt;
-        first_other(rt.alloc(), &mut source, &FETCHES)?,
-        None,
-        "calm"
-    );
-    Ok(())
+    source.add(b"a", b"first").expect(&rt, "a source");
+    check(&rt, rt.alloc(), &mut source, &FETCHES);
 }
 
 /// The name of the file that is written and fetched.
@@ -86,13 +75,10 @@ const SYSTEM_FETCHES: [(&str, usize, Option<&str>); 5] = [
 ];
 
 #[test]
-fn files_of_the_system_are_found(rt: HostRuntime) -> Result<(), Fail> {
-    fs::write(&rt, PATH, b"first".as_slice())?;
-    let mut source = FileSource::new(&rt);
-    let other = first_other(rt.alloc(), &mut source, &SYSTEM_FETCHES)?;
-    assert_eq!(rt; other, None, "of the system");
-    fs::remove_file(&rt, PATH)?;
-    Ok(())
+fn files_of_the_system_are_found(rt: HostRuntime) {
+    fs::write(&rt, PATH, b"first".as_slice()).expect(&rt, PATH);
+    check(&rt, rt.alloc(), &mut FileSource::new(&rt), &SYSTEM_FETCHES);
+    fs::remove_file(&rt, PATH).expect(&rt, PATH);
 }
 
 /// A name that is not UTF-8, and a folder, twice each.
