@@ -10,7 +10,7 @@ use xp_base::MAX_TEXT;
 /// What came of a case is what was wanted of it.
 pub(crate) fn check(rt: &impl Abort, case: &str, found: &[u8], wanted: &str) {
     let found = str::from_utf8(found).expect(rt, case);
-    assert_eq!(rt; found, wanted, "at {case}");
+    assert!(rt; found == wanted, "at {case}: {found}");
 }
 
 /// A value, as it is written for one who looks for a fault.

@@ -64,10 +64,15 @@ fn entered_by(rt: &impl Abort, alloc: Global, conv: Conv, text: &str) -> Bytes {
     entered(rt, alloc, conv, items)
 }
 
+/// Each line comes to its frame, or is refused.
+fn check_rows(rt: &impl Abort, alloc: Global, rows: &[(Conv, &str, &str)]) {
+    for (conv, text, wanted) in rows {
+        let frame = entered_by(rt, alloc, *conv, text);
+        check(rt, text, frame.as_slice(), wanted);
+    }
+}
+
 #[test]
 fn frames_are_those_of_their_lines(rt: HostRuntime) {
-    for (conv, text, wanted) in &ROWS {
-        let frame = entered_by(&rt, rt.alloc(), *conv, text);
-        check(&rt, text, frame.as_slice(), wanted);
-    }
+    check_rows(&rt, rt.alloc(), &ROWS);
 }

@@ -69,10 +69,10 @@ fn add_member(rt: &impl Abort, alloc: Global, members: &mut List<MemberRef>, row
     members.push(member).expect(rt, "members");
 }
 
-/// The members of the rows.
-fn members_of_rows(rt: &impl Abort, alloc: Global) -> List<MemberRef> {
+/// The members of rows.
+fn members_of(rt: &impl Abort, alloc: Global, rows: &[Row]) -> List<MemberRef> {
     let mut members = List::new(alloc);
-    for row in &ROWS {
+    for row in rows {
         add_member(rt, alloc, &mut members, row);
     }
     members
@@ -89,13 +89,23 @@ fn found<'a>(
     Ok((found.iface, found.method.slot()))
 }
 
+/// The members are found as the rows say.
+fn check_members<'a>(
+    rt: &impl Abort,
+    members: &mut Members<'a>,
+    asked: &'a [MemberRef],
+    rows: &[Row],
+) {
+    for ((iface, _, name, wanted), member) in rows.iter().zip(asked) {
+        let found = found(rt, members, member);
+        assert!(rt; found == *wanted, "at {name} of {iface}");
+    }
+}
+
 #[test]
 fn members_are_found_and_remembered(rt: HostRuntime) {
     let lib = Typelib::check(&MEMBERS).expect(&rt, "a typelib");
-    let asked = members_of_rows(&rt, rt.alloc());
+    let asked = members_of(&rt, rt.alloc(), &ROWS);
     let mut members = Members::new(rt.alloc(), &lib);
-    for ((iface, kind, name, wanted), member) in ROWS.iter().zip(asked.as_slice()) {
-        let found = found(&rt, &mut members, member);
-        assert!(rt; found == *wanted, "at {kind:?} {name} of {iface}");
-    }
+    check_members(&rt, &mut members, asked.as_slice(), &ROWS);
 }

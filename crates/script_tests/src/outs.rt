@@ -123,31 +123,37 @@ fn put_cells(machine: &mut Machine, cells: &[u64]) {
     }
 }
 
-/// The line of a row, whose method has as many arguments as the row has values.
+/// The line of a row on a new machine. Its method has as many arguments as the row has values.
 fn line_of(
     rt: &impl Abort,
     alloc: Global,
     lib: &Typelib<'_>,
+    machine: &mut Machine,
     method: &MethodView<'_>,
     row: &Row<'_>,
 ) -> Bytes {
-    let mut machine = machine_with_blocks(rt, alloc);
     let positions = method.positions();
     assert!(rt; positions <= machine.cells_free());
     machine.push_cells(positions);
-    put_cells(&mut machine, row.cells);
+    put_cells(machine, row.cells);
     let pushed = MOST_CELLS - machine.cells_free();
     assert!(rt; pushed == positions && row.values.len() == positions as usize);
     assert!(rt; row.k < positions);
-    out_line(alloc, lib, &machine, method, row.values, row.k).expect(rt, row.line)
+    out_line(alloc, lib, machine, method, row.values, row.k).expect(rt, row.line)
+}
+
+/// What comes out by each row has its line.
+fn check_rows(rt: &impl Abort, alloc: Global, lib: &Typelib<'_>, rows: &[Row<'_>]) {
+    for row in rows {
+        let method = lib.method_at(2, row.slot).expect(rt, "a method");
+        let mut machine = machine_with_blocks(rt, alloc);
+        let line = line_of(rt, alloc, lib, &mut machine, &method, row);
+        check(rt, row.line, line.as_slice(), row.line);
+    }
 }
 
 #[test]
 fn what_comes_out_is_told_with_its_note(rt: HostRuntime) {
     let lib = Typelib::check(&LISTS).expect(&rt, "a typelib");
-    for row in &ROWS {
-        let method = lib.method_at(2, row.slot).expect(&rt, "a method");
-        let line = line_of(&rt, rt.alloc(), &lib, &method, row);
-        check(&rt, row.line, line.as_slice(), row.line);
-    }
+    check_rows(&rt, rt.alloc(), &lib, &ROWS);
 }

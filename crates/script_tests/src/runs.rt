@@ -3,6 +3,7 @@
 use crate::cases::script_of;
 use crate::typelibs::{ADDS, BOOLEANS, SHORTS};
 use call_model::Conv;
+use call_scripts::Script;
 use descriptor_reader::Typelib;
 use machine_bench::{Bench, MemBench, Sight};
 use object_memory::Machine;
@@ -236,7 +237,24 @@ const RUNS: [Run; 5] = [
     },
 ];
 
-/// Runs a text over a typelib on a new machine, into a sink and before a bench. Gives the machine.
+/// Runs a script over a typelib on a new machine, into a sink and before a bench.
+fn run_anew<O: Sink, B: Bench>(
+    rt: &impl Abort,
+    alloc: Global,
+    conv: Conv,
+    lib: &Typelib<'_>,
+    script: &Script,
+    out: &mut O,
+    bench: &mut B,
+) -> Result<Machine, RunFault> {
+    let mut machine = Machine::new(alloc, conv).expect(rt, "a machine");
+    match run_script(alloc, &mut machine, lib, script, out, bench) {
+        Ok(()) => Ok(machine),
+        Err(fault) => Err(fault),
+    }
+}
+
+/// The same of a text over the bytes of a typelib.
 pub(crate) fn ran<O: Sink, B: Bench>(
     rt: &impl Abort,
     alloc: Global,
@@ -249,11 +267,7 @@ pub(crate) fn ran<O: Sink, B: Bench>(
     assert!(rt; typelib.len() <= MAX_TYPELIB);
     let lib = Typelib::check(typelib).expect(rt, "a typelib");
     let script = script_of(rt, alloc, text);
-    let mut machine = Machine::new(alloc, conv).expect(rt, "a machine");
-    match run_script(alloc, &mut machine, &lib, &script, out, bench) {
-        Ok(()) => Ok(machine),
-        Err(fault) => Err(fault),
-    }
+    run_anew(rt, alloc, conv, &lib, &script, out, bench)
 }
 
 /// What a bench sees of a run, after which the object is where it is to be.
@@ -302,9 +316,14 @@ fn check_run(rt: &impl Abort, alloc: Global, run: &Run) {
     assert!(rt; are_seen(sights, run), "at {}: {sights:?}", run.name);
 }
 
+/// A bench sees what is wanted of each run.
+fn check_runs(rt: &impl Abort, alloc: Global, rows: &[Run]) {
+    for run in rows {
+        check_run(rt, alloc, run);
+    }
+}
+
 #[test]
 fn a_bench_sees_all_that_calls_pass(rt: HostRuntime) {
-    for run in &RUNS {
-        check_run(&rt, rt.alloc(), run);
-    }
+    check_runs(&rt, rt.alloc(), &RUNS);
 }

@@ -103,11 +103,16 @@ fn check_form(rt: &impl Abort, alloc: Global, text: &str, tree: &str, echo: &str
     check(rt, text, line.echo.as_slice(), echo);
 }
 
+/// Each form has its tree and its echo.
+fn check_forms(rt: &impl Abort, alloc: Global, rows: &[(&str, &str, &str)]) {
+    for (text, tree, echo) in rows {
+        check_form(rt, alloc, text, tree, echo);
+    }
+}
+
 #[test]
 fn forms_are_read(rt: HostRuntime) {
-    for (text, tree, echo) in &FORMS {
-        check_form(&rt, rt.alloc(), text, tree, echo);
-    }
+    check_forms(&rt, rt.alloc(), &FORMS);
 }
 
 /// Whether lines have these numbers.
@@ -237,12 +242,17 @@ const READINGS: [(&str, Reading); 12] = [
     (LONGER_NAME, (&[], Some(1))),
 ];
 
-#[test]
-fn lines_are_counted_up_to_the_first_fault(rt: HostRuntime) {
-    for (text, reading) in &READINGS {
-        let is_read = reads_as(&rt, rt.alloc(), text, reading);
+/// Each text reads as it is to.
+fn check_readings(rt: &impl Abort, alloc: Global, rows: &[(&str, Reading)]) {
+    for (text, reading) in rows {
+        let is_read = reads_as(rt, alloc, text, reading);
         assert!(rt; is_read, "at {text:?}");
     }
+}
+
+#[test]
+fn lines_are_counted_up_to_the_first_fault(rt: HostRuntime) {
+    check_readings(&rt, rt.alloc(), &READINGS);
 }
 
 /// Words, and the conventions that they name.

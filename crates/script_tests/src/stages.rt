@@ -27,14 +27,11 @@ fn add_blocks<'a>(
     Ok([data, object, proxy])
 }
 
-/// A stage with these blocks, and their addresses.
-fn stage_with_blocks(
-    alloc: Global,
-    lib: &Typelib<'_>,
-) -> Result<(Stage<'static>, [u64; 3]), StepError> {
-    let mut stage = Stage::new(alloc, Conv::SysV64)?;
-    let addresses = add_blocks(alloc, &mut stage, lib)?;
-    Ok((stage, addresses))
+/// A new stage.
+fn new_stage(rt: &impl Abort, alloc: Global) -> Stage<'static>
+    ensures { IsStanding result }
+{
+    Stage::new(alloc, Conv::SysV64).expect(rt, "a stage")
 }
 
 /// A line, and what its words find. An object is looked for by its name, as one with the members of
@@ -124,14 +121,22 @@ fn check_row(
     check(rt, text, found.as_bytes(), wanted);
 }
 
+/// The words of each text find on a stage with these blocks what they are to.
+fn check_rows(rt: &impl Abort, alloc: Global, stage: &mut Stage<'_>, lib: &Typelib<'_>)
+    requires { IsStanding stage.old }
+{
+    let addresses = add_blocks(alloc, stage, lib).expect(rt, "blocks");
+    assert!(rt; addresses == [0x107d0, 0x107e0, 0x107f0]);
+    assert!(rt; stage.object_at(lib, 1, 0x107f0) == Ok(1));
+    for row in &ROWS {
+        check_row(rt, alloc, stage, lib, row);
+    }
+}
+
 #[test]
 fn lines_find_what_was_made(rt: HostRuntime) {
     let alloc = rt.alloc();
     let lib = Typelib::check(&ADDS).expect(&rt, "a typelib");
-    let (stage, addresses) = stage_with_blocks(alloc, &lib).expect(&rt, "a stage");
-    assert!(rt; addresses == [0x107d0, 0x107e0, 0x107f0]);
-    assert!(rt; stage.object_at(&lib, 1, 0x107f0) == Ok(1));
-    for row in &ROWS {
-        check_row(&rt, alloc, &stage, &lib, row);
-    }
+    let mut stage = new_stage(&rt, alloc);
+    check_rows(&rt, alloc, &mut stage, &lib);
 }

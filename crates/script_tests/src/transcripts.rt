@@ -2,8 +2,9 @@
 
 use crate::cases::check;
 use call_model::{CType, Conv};
-use object_memory::{Machine, Width};
+use object_memory::{Frame, Machine, Width};
 use std::alloc::Global;
+use std::process::Abort;
 use transcript_text::{
     Refusal, at_line, echo_line, frame_lines, got_line, refused_line, result_line, slot_line,
     value_word,
@@ -56,24 +57,34 @@ const ROWS: [(Told, &str); 17] = [
     (Told::EmptyFrame, EMPTY_FRAME),
 ];
 
-/// The line of the values that were received.
-fn got(alloc: Global, values: &[&str]) -> Result<Bytes, Memory> {
-    let mut words = List::new(alloc);
+/// Adds words to a list.
+fn add_words(alloc: Global, words: &mut List<Bytes>, values: &[&str]) -> Result<(), Memory> {
     for value in values {
         words.push(Bytes::copy(alloc, value.as_bytes())?)?;
     }
+    Ok(())
+}
+
+/// The line of the values that were received.
+fn got(alloc: Global, values: &[&str]) -> Result<Bytes, Memory> {
+    let mut words = List::new(alloc);
+    add_words(alloc, &mut words, values)?;
     got_line(alloc, words.as_slice())
 }
 
-/// The lines of a frame with two registers and two words on its stack.
-fn full_frame(alloc: Global) -> Result<Bytes, Memory> {
-    let mut machine = Machine::new(alloc, Conv::SysV64)?;
-    let frame = machine.frame_mut();
+/// Gives a frame two registers and two words on its stack.
+fn fill(frame: &mut Frame) {
     frame.clear(16);
     frame.set_gpr(0, 0x107d0);
     frame.set_gpr(1, u64::MAX);
     frame.set_stack(0, Width::W8, 6);
     frame.set_stack(8, Width::W8, 7);
+}
+
+/// The lines of a frame with two registers and two words on its stack.
+fn full_frame(alloc: Global) -> Result<Bytes, Memory> {
+    let mut machine = Machine::new(alloc, Conv::SysV64)?;
+    fill(machine.frame_mut());
     frame_lines(alloc, Conv::SysV64, machine.frame())
 }
 
@@ -98,10 +109,15 @@ fn worded(alloc: Global, told: &Told) -> Result<Bytes, Memory> {
     }
 }
 
+/// Each part of a transcript has its words.
+fn check_rows(rt: &impl Abort, alloc: Global, rows: &[(Told, &str)]) {
+    for (told, wanted) in rows {
+        let text = worded(alloc, told).expect(rt, wanted);
+        check(rt, wanted, text.as_slice(), wanted);
+    }
+}
+
 #[test]
 fn transcripts_are_worded(rt: HostRuntime) {
-    for (told, wanted) in &ROWS {
-        let text = worded(rt.alloc(), told).expect(&rt, wanted);
-        check(&rt, wanted, text.as_slice(), wanted);
-    }
+    check_rows(&rt, rt.alloc(), &ROWS);
 }
