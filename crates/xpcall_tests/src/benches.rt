@@ -1,6 +1,6 @@
 //! What a bench sees of a run.
 
-use crate::files::{CALL, SUPPORTS};
+use crate::files::{CALL, COMPILE, SUPPORTS};
 use crate::outcomes::{compiled, outcome};
 use crate::transcripts::interfaces::ADD;
 use machine_bench::{MemBench, Sight};
@@ -67,22 +67,41 @@ fn are_seen(sights: &[Sight], wanted: &[Seen]) -> bool {
     sights.len() == wanted.len()
 }
 
+/// The status of a call of a script over a typelib, before a bench.
+fn status_before(
+    rt: &impl Abort,
+    alloc: Global,
+    typelib: &[u8],
+    script: &[u8],
+    bench: &mut MemBench,
+) -> u8 {
+    let files = [("a.xpt", typelib), ("s.txt", script)];
+    let (status, _, _) = outcome(rt, alloc, CALL, &files, bench);
+    status
+}
+
 /// The run of a row comes to its status and its sights.
 fn check_row(rt: &impl Abort, alloc: Global, typelib: &[u8], row: &Row) {
     let (name, script, wanted, seen) = row;
-    let files = [("a.xpt", typelib), ("s.txt", *script)];
     let mut bench = MemBench::new(alloc);
-    let (status, _, _) = outcome(rt, alloc, CALL, &files, &mut bench);
-    assert!(rt; status == *wanted, "the status at {name}");
+    let status = status_before(rt, alloc, typelib, script, &mut bench);
     let sights = bench.sights().as_slice();
-    assert!(rt; are_seen(sights, seen), "at {name}: {sights:?}");
+    assert!(rt;
+        status == *wanted && are_seen(sights, seen),
+        "at {name}: {status} {sights:?}"
+    );
+}
+
+/// Each run comes to its status and its sights.
+fn check_rows(rt: &impl Abort, alloc: Global, typelib: &[u8], rows: &[Row]) {
+    for row in rows {
+        check_row(rt, alloc, typelib, row);
+    }
 }
 
 #[test]
 fn a_bench_sees_calls(rt: HostRuntime) {
     let idl: [(&str, &[u8]); 2] = [("a.idl", ADD), ("nsISupports.idl", SUPPORTS)];
-    let typelib = compiled(&rt, rt.alloc(), "a.idl", &idl);
-    for row in &ROWS {
-        check_row(&rt, rt.alloc(), typelib.written(), row);
-    }
+    let typelib = compiled(&rt, rt.alloc(), COMPILE, &idl);
+    check_rows(&rt, rt.alloc(), typelib.written(), &ROWS);
 }

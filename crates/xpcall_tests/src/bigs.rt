@@ -1,6 +1,6 @@
 //! `big N`: what it prints, and words that are no number of it.
 
-use crate::commands::USAGE;
+use crate::commands::check_refused;
 use crate::outcomes::{Run, check_all, outcome};
 use machine_bench::NoBench;
 use std::alloc::Global;
@@ -20,59 +20,22 @@ i386 calls 3 bytes 489 outs 3
 aapcs64 calls 3 bytes 537 outs 3
 ";
 
-/// A run of two interfaces.
-const BIG: Run<'static> = Run {
-    name: "two interfaces",
-    words: &["big", "1"],
-    files: &[],
-    status: 0,
-    out: ONE,
-    err: b"",
-};
-
-/// A run of words that are no number of `big`.
-const REFUSED: Run<'static> = Run {
-    name: "no number",
-    words: &["big"],
-    status: 2,
-    out: b"",
-    err: USAGE,
-    ..BIG
-};
-
-const RUNS: [Run<'static>; 8] = [
-    BIG,
+const RUNS: [Run<'static>; 2] = [
+    Run {
+        name: "two interfaces",
+        words: "big 1",
+        files: &[],
+        status: 0,
+        out: ONE,
+        err: b"",
+    },
     Run {
         name: "three interfaces",
-        words: &["big", "2"],
+        words: "big 2",
+        files: &[],
+        status: 0,
         out: TWO,
-        ..BIG
-    },
-    REFUSED,
-    Run {
-        name: "nothing",
-        words: &["big", "0"],
-        ..REFUSED
-    },
-    Run {
-        name: "a leading zero",
-        words: &["big", "01"],
-        ..REFUSED
-    },
-    Run {
-        name: "a number too many",
-        words: &["big", "250"],
-        ..REFUSED
-    },
-    Run {
-        name: "no digits",
-        words: &["big", "1x"],
-        ..REFUSED
-    },
-    Run {
-        name: "two numbers",
-        words: &["big", "1", "2"],
-        ..REFUSED
+        err: b"",
     },
 ];
 
@@ -81,19 +44,35 @@ fn big_sums_up_the_calls_under_three_conventions(rt: HostRuntime) {
     check_all(&rt, rt.alloc(), &RUNS);
 }
 
-/// Numbers whose last interface has the most parameters, none, and one; and the greatest.
-const NUMBERS: [&str; 4] = ["11", "12", "25", "249"];
+/// Words that are no number of `big`, behind what they are.
+const REFUSED: [(&str, &str); 6] = [
+    ("no number", "big"),
+    ("nothing", "big 0"),
+    ("a leading zero", "big 01"),
+    ("a number too many", "big 250"),
+    ("no digits", "big 1x"),
+    ("two numbers", "big 1 2"),
+];
 
-/// The status of `big` with a number.
-fn status_of(rt: &impl Abort, alloc: Global, number: &str) -> u8 {
-    let words = ["big", number];
-    let (status, _, _) = outcome(rt, alloc, &words, &[], &mut NoBench::new());
+#[test]
+fn other_numbers_are_refused(rt: HostRuntime) {
+    for (name, words) in &REFUSED {
+        check_refused(&rt, rt.alloc(), name, words);
+    }
+}
+
+/// Runs of numbers whose last interface has the most parameters, none, and one; and the greatest.
+const NUMBERS: [&str; 4] = ["big 11", "big 12", "big 25", "big 249"];
+
+/// The status of a run of words with no files.
+fn status_of(rt: &impl Abort, alloc: Global, words: &str) -> u8 {
+    let (status, _, _) = outcome(rt, alloc, words, &[], &mut NoBench::new());
     status
 }
 
 #[test]
 fn numbers_are_not_refused(rt: HostRuntime) {
-    for number in &NUMBERS {
-        assert!(rt; status_of(&rt, rt.alloc(), number) == 0, "at {number}");
+    for words in &NUMBERS {
+        assert!(rt; status_of(&rt, rt.alloc(), words) == 0, "at {words}");
     }
 }

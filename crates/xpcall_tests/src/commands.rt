@@ -1,63 +1,43 @@
 //! Words that are no command, and files that are absent.
 
 use crate::files::{CALL, COMPILE, TYPELIB};
-use crate::outcomes::{Run, check_all};
+use crate::outcomes::{Run, check, check_all};
+use std::alloc::Global;
+use std::process::Abort;
 
 /// What a run answers to words that are no command.
-pub const USAGE: &[u8] =
-    b"usage: xpcall compile FILE... | dump XPT | call CONV XPT SCRIPT | big N\n";
+const USAGE: &[u8] = b"usage: xpcall compile FILE... | dump XPT | call CONV XPT SCRIPT | big N\n";
 
-/// A run of words that are no command.
-const REFUSED: Run<'static> = Run {
-    name: "no words",
-    words: &[],
-    files: &[],
-    status: 2,
-    out: b"",
-    err: USAGE,
-};
-
-const UNKNOWN: [Run<'static>; 7] = [
-    Run {
-        name: "a convention that is none",
-        words: &["call", "vax", "a", "b"],
-        ..REFUSED
-    },
-    Run {
-        name: "an empty name",
-        words: &["call", "sysv64", "a", ""],
-        ..REFUSED
-    },
-    Run {
-        name: "no file",
-        words: &["compile"],
-        ..REFUSED
-    },
-    Run {
-        name: "an empty file name",
-        words: &["compile", ""],
-        ..REFUSED
-    },
-    Run {
-        name: "an empty second name",
-        words: &["compile", "a", ""],
-        ..REFUSED
-    },
-    Run {
-        name: "no typelib",
-        words: &["dump"],
-        ..REFUSED
-    },
-    Run {
-        name: "two typelibs",
-        words: &["dump", "a", "b"],
-        ..REFUSED
-    },
+/// Words that are no command, behind what they are.
+const UNKNOWN: [(&str, &str); 8] = [
+    ("no words", ""),
+    ("a convention that is none", "call vax a b"),
+    ("an empty name", "call sysv64 a "),
+    ("no file", "compile"),
+    ("an empty file name", "compile "),
+    ("an empty second name", "compile a "),
+    ("no typelib", "dump"),
+    ("two typelibs", "dump a b"),
 ];
+
+/// Words are refused as no command.
+pub fn check_refused(rt: &impl Abort, alloc: Global, name: &str, words: &str) {
+    let run = Run {
+        name,
+        words,
+        files: &[],
+        status: 2,
+        out: b"",
+        err: USAGE,
+    };
+    check(rt, alloc, &run);
+}
 
 #[test]
 fn words_are_refused(rt: HostRuntime) {
-    check_all(&rt, rt.alloc(), &UNKNOWN);
+    for (name, words) in &UNKNOWN {
+        check_refused(&rt, rt.alloc(), name, words);
+    }
 }
 
 const ABSENT: [Run<'static>; 3] = [

@@ -1,7 +1,9 @@
 //! The command `compile`.
 
 use crate::files::{COMPILE, THIN, TYPELIB};
-use crate::outcomes::{Run, check_all};
+use crate::outcomes::{Run, check};
+use std::alloc::Global;
+use std::process::Abort;
 
 /// The typelib of no interfaces: a header and an annotation.
 const EMPTY: [u8; 36] = [
@@ -18,89 +20,118 @@ interface nsIA {
   void f();
   void f(); };";
 
-/// A run that compiles one file.
-const ONE: Run<'static> = Run {
-    name: "one method",
-    words: COMPILE,
-    files: &[("a.idl", THIN)],
-    status: 0,
-    out: &TYPELIB,
-    err: b"",
-};
+/// A text that is compiled alone, and what is to come of it.
+struct Text {
+    name: &'static str,
+    text: &'static [u8],
+    status: u8,
+    out: &'static [u8],
+    err: &'static [u8],
+}
 
-/// A run that refuses one file.
-const REFUSED: Run<'static> = Run {
-    name: "an interface with no end",
-    words: COMPILE,
-    files: &[("a.idl", b"interface nsIA {")],
-    status: 10,
-    out: b"",
-    err: b"a.idl:1: syntax\n",
-};
-
-const TEXTS: [Run<'static>; 11] = [
-    ONE,
-    Run {
+const TEXTS: [Text; 11] = [
+    Text {
+        name: "one method",
+        text: THIN,
+        status: 0,
+        out: &TYPELIB,
+        err: b"",
+    },
+    Text {
         name: "no interface",
-        files: &[("a.idl", b"")],
+        text: b"",
+        status: 0,
         out: &EMPTY,
-        ..ONE
+        err: b"",
     },
-    REFUSED,
-    Run {
+    Text {
+        name: "an interface with no end",
+        text: b"interface nsIA {",
+        status: 10,
+        out: b"",
+        err: b"a.idl:1: syntax\n",
+    },
+    Text {
         name: "no token",
-        files: &[("a.idl", b"interface ?")],
+        text: b"interface ?",
+        status: 10,
+        out: b"",
         err: b"a.idl:1: token\n",
-        ..REFUSED
     },
-    Run {
+    Text {
         name: "no token on the third line",
-        files: &[("a.idl", b"/* \n */\n ?")],
+        text: b"/* \n */\n ?",
+        status: 10,
+        out: b"",
         err: b"a.idl:3: token\n",
-        ..REFUSED
     },
-    Run {
+    Text {
         name: "a constant past its range",
-        files: &[("a.idl", WIDE_CONSTANT)],
+        text: WIDE_CONSTANT,
+        status: 10,
+        out: b"",
         err: b"a.idl:1: fault 11\n",
-        ..REFUSED
     },
-    Run {
+    Text {
         name: "no identifier",
-        files: &[("a.idl", b"\n\ninterface nsIA { };")],
+        text: b"\n\ninterface nsIA { };",
+        status: 10,
+        out: b"",
         err: b"a.idl:3: fault 4\n",
-        ..REFUSED
     },
-    Run {
+    Text {
         name: "an unknown type",
-        files: &[("a.idl", b"typedef long a;\ntypedef b c;")],
+        text: b"typedef long a;\ntypedef b c;",
+        status: 10,
+        out: b"",
         err: b"a.idl:2: fault 2\n",
-        ..REFUSED
     },
-    Run {
+    Text {
         name: "a method that stands twice",
-        files: &[("a.idl", METHOD_TWICE)],
+        text: METHOD_TWICE,
+        status: 10,
+        out: b"",
         err: b"a.idl:4: fault 1\n",
-        ..REFUSED
     },
-    Run {
+    Text {
         name: "a name of no value",
-        files: &[("a.idl", b"typedef void a;")],
+        text: b"typedef void a;",
+        status: 10,
+        out: b"",
         err: b"a.idl:1: fault 6\n",
-        ..REFUSED
     },
-    Run {
+    Text {
         name: "an absent file",
-        files: &[("a.idl", b"#include \"b.idl\"")],
+        text: b"#include \"b.idl\"",
         status: 6,
+        out: b"",
         err: b"no file b.idl\n",
-        ..REFUSED
     },
 ];
 
+/// A text comes to what it is to come to.
+fn check_text(rt: &impl Abort, alloc: Global, text: &Text) {
+    let run = Run {
+        name: text.name,
+        words: COMPILE,
+        files: &[("a.idl", text.text)],
+        status: text.status,
+        out: text.out,
+        err: text.err,
+    };
+    check(rt, alloc, &run);
+}
+
+/// Each text comes to what it is to come to.
+fn check_texts(rt: &impl Abort, alloc: Global, texts: &[Text]) {
+    for text in texts {
+        check_text(rt, alloc, text);
+    }
+}
+
 #[test]
 fn texts_are_compiled_or_refused(rt: HostRuntime) {
-    check_all(&rt, rt.alloc(), &TEXTS);
+    check_texts(&rt, rt.alloc(), &TEXTS);
 }
 
 const INCLUDER: &[u8] = b"#include \"e.idl\"
@@ -132,59 +163,96 @@ const OF_TWO: [u8; 167] = [
     0x00, 0x02, 0x00, 0x00, 0x00, 0x00, 0x00,
 ];
 
-/// Runs over more than one file: that include one another, and that are named together.
-const TOGETHER: [Run<'static>; 6] = [
-    Run {
+/// A run over two files with their names, which include one another or are named together, and what
+/// is to come of it.
+struct Pair {
+    name: &'static str,
+    words: &'static str,
+    first: (&'static str, &'static [u8]),
+    second: (&'static str, &'static [u8]),
+    status: u8,
+    out: &'static [u8],
+    err: &'static [u8],
+}
+
+const PAIRS: [Pair; 6] = [
+    Pair {
         name: "an included file",
         words: COMPILE,
-        files: &[("a.idl", INCLUDER), ("e.idl", b"")],
+        first: ("a.idl", INCLUDER),
+        second: ("e.idl", b""),
         status: 0,
         out: &TYPELIB,
         err: b"",
     },
-    Run {
+    Pair {
         name: "two files",
-        words: &["compile", "e.idl", "a.idl"],
-        files: &[("a.idl", THIN), ("e.idl", b"")],
+        words: "compile e.idl a.idl",
+        first: ("a.idl", THIN),
+        second: ("e.idl", b""),
         status: 0,
         out: &TYPELIB,
         err: b"",
     },
-    Run {
+    Pair {
         name: "two files that include one another",
-        words: &["compile", "p.idl"],
-        files: &[("p.idl", FIRST_OF_TWO), ("q.idl", SECOND_OF_TWO)],
+        words: "compile p.idl",
+        first: ("p.idl", FIRST_OF_TWO),
+        second: ("q.idl", SECOND_OF_TWO),
         status: 0,
         out: &OF_TWO,
         err: b"",
     },
-    Run {
+    Pair {
         name: "the same from the other end",
-        words: &["compile", "q.idl"],
-        files: &[("p.idl", FIRST_OF_TWO), ("q.idl", SECOND_OF_TWO)],
+        words: "compile q.idl",
+        first: ("p.idl", FIRST_OF_TWO),
+        second: ("q.idl", SECOND_OF_TWO),
         status: 10,
         out: b"",
         err: b"p.idl:2: fault 3\n",
     },
-    Run {
+    Pair {
         name: "a fault of an included file",
         words: COMPILE,
-        files: &[("a.idl", INCLUDER), ("e.idl", BROKEN)],
+        first: ("a.idl", INCLUDER),
+        second: ("e.idl", BROKEN),
         status: 10,
         out: b"",
         err: b"e.idl:2: token\n",
     },
-    Run {
+    Pair {
         name: "the first of two faults",
-        words: &["compile", "e.idl", "a.idl"],
-        files: &[("a.idl", WIDE_CONSTANT), ("e.idl", b"\n\ntypedef void x;")],
+        words: "compile e.idl a.idl",
+        first: ("a.idl", WIDE_CONSTANT),
+        second: ("e.idl", b"\n\ntypedef void x;"),
         status: 10,
         out: b"",
         err: b"e.idl:3: fault 6\n",
     },
 ];
 
+/// A run over two files comes to what it is to come to.
+fn check_pair(rt: &impl Abort, alloc: Global, pair: &Pair) {
+    let run = Run {
+        name: pair.name,
+        words: pair.words,
+        files: &[pair.first, pair.second],
+        status: pair.status,
+        out: pair.out,
+        err: pair.err,
+    };
+    check(rt, alloc, &run);
+}
+
+/// Each run over two files comes to what it is to come to.
+fn check_pairs(rt: &impl Abort, alloc: Global, pairs: &[Pair]) {
+    for pair in pairs {
+        check_pair(rt, alloc, pair);
+    }
+}
+
 #[test]
 fn files_are_compiled_together(rt: HostRuntime) {
-    check_all(&rt, rt.alloc(), &TOGETHER);
+    check_pairs(&rt, rt.alloc(), &PAIRS);
 }

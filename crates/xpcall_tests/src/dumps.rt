@@ -6,7 +6,7 @@ use crate::outcomes::{Run, check, check_all, compiled};
 use std::alloc::Global;
 use std::process::Abort;
 
-const DUMP: &[&str] = &["dump", "a.xpt"];
+const DUMP: &str = "dump a.xpt";
 
 const LISTING: &[u8] = b"\
 typelib 1.2 1
@@ -137,7 +137,7 @@ const LISTED: [Row; 3] = [
 /// The typelib of a row is listed like this.
 fn check_row(rt: &impl Abort, alloc: Global, row: &Row) {
     let (name, text, other, listing) = row;
-    let typelib = compiled(rt, alloc, "p.idl", &[("p.idl", *text), *other]);
+    let typelib = compiled(rt, alloc, "compile p.idl", &[("p.idl", *text), *other]);
     let run = Run {
         name,
         words: DUMP,
@@ -149,9 +149,14 @@ fn check_row(rt: &impl Abort, alloc: Global, row: &Row) {
     check(rt, alloc, &run);
 }
 
+/// The typelib of each row is listed like this.
+fn check_rows(rt: &impl Abort, alloc: Global, rows: &[Row]) {
+    for row in rows {
+        check_row(rt, alloc, row);
+    }
+}
+
 #[test]
 fn compiled_typelibs_are_listed(rt: HostRuntime) {
-    for row in &LISTED {
-        check_row(&rt, rt.alloc(), row);
-    }
+    check_rows(&rt, rt.alloc(), &LISTED);
 }

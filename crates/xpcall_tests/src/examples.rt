@@ -63,7 +63,7 @@ out 2 1
 const EXAMPLES: [Run<'static>; 3] = [
     Run {
         name: "an interface and the file that it includes",
-        words: &["compile", "t.idl"],
+        words: "compile t.idl",
         files: &[("nsISupports.idl", SUPPORTS), ("t.idl", IDL)],
         status: 0,
         out: &TYPELIB,
@@ -71,7 +71,7 @@ const EXAMPLES: [Run<'static>; 3] = [
     },
     Run {
         name: "the listing of the two",
-        words: &["dump", "t.xpt"],
+        words: "dump t.xpt",
         files: &[("t.xpt", &TYPELIB)],
         status: 0,
         out: LISTING,
@@ -79,7 +79,7 @@ const EXAMPLES: [Run<'static>; 3] = [
     },
     Run {
         name: "a reply, a call and what comes out of it",
-        words: &["call", "sysv64", "t.xpt", "t.txt"],
+        words: "call sysv64 t.xpt t.txt",
         files: &[("t.txt", SCRIPT), ("t.xpt", &TYPELIB)],
         status: 0,
         out: TRANSCRIPT,

@@ -2,6 +2,8 @@
 
 use crate::files::{CALL, CALL_OF_ONE, COMPILE, THIN, TYPELIB};
 use crate::outcomes::{Failing, Run, check_failing};
+use std::alloc::Global;
+use std::process::Abort;
 
 const FILES: &[(&str, &[u8])] = &[
     ("a.idl", THIN),
@@ -11,145 +13,136 @@ const FILES: &[(&str, &[u8])] = &[
     ("s.txt", CALL_OF_ONE),
 ];
 
-/// The calls of a run that fail, and what is to come of it.
-const RUNS: [(Failing, Run<'static>); 12] = [
-    (
-        [0, 0, 0],
-        Run {
-            name: "none",
-            words: COMPILE,
-            files: FILES,
-            status: 0,
-            out: &TYPELIB,
-            err: b"",
-        },
-    ),
-    (
-        [1, 0, 0],
-        Run {
-            name: "the text",
-            words: COMPILE,
-            files: FILES,
-            status: 3,
-            out: b"",
-            err: b"cannot read a.idl\n",
-        },
-    ),
-    (
-        [0, 3, 0],
-        Run {
-            name: "the third byte",
-            words: COMPILE,
-            files: FILES,
-            status: 4,
-            out: b"XP",
-            err: b"cannot write\n",
-        },
-    ),
-    (
-        [0, 3, 2],
-        Run {
-            name: "the third byte, and of the report the second",
-            words: COMPILE,
-            files: FILES,
-            status: 4,
-            out: b"XP",
-            err: b"c",
-        },
-    ),
-    (
-        [1, 0, 4],
-        Run {
-            name: "the text, and of the report the fourth byte",
-            words: COMPILE,
-            files: FILES,
-            status: 4,
-            out: b"",
-            err: b"can",
-        },
-    ),
-    (
-        [1, 0, 0],
-        Run {
-            name: "the typelib",
-            words: CALL,
-            files: FILES,
-            status: 3,
-            out: b"",
-            err: b"cannot read a.xpt\n",
-        },
-    ),
-    (
-        [2, 0, 0],
-        Run {
-            name: "the script",
-            words: CALL,
-            files: FILES,
-            status: 3,
-            out: b"",
-            err: b"cannot read s.txt\n",
-        },
-    ),
-    (
-        [0, 3, 0],
-        Run {
-            name: "the third byte of a transcript",
-            words: CALL,
-            files: FILES,
-            status: 4,
-            out: b"> ",
-            err: b"cannot write\n",
-        },
-    ),
-    (
-        [1, 0, 0],
-        Run {
-            name: "the typelib of a listing",
-            words: &["dump", "a.xpt"],
-            files: FILES,
-            status: 3,
-            out: b"",
-            err: b"cannot read a.xpt\n",
-        },
-    ),
-    (
-        [0, 8, 0],
-        Run {
-            name: "the eighth byte of a listing",
-            words: &["dump", "a.xpt"],
-            files: FILES,
-            status: 4,
-            out: b"typelib",
-            err: b"cannot write\n",
-        },
-    ),
-    (
-        [2, 0, 0],
-        Run {
-            name: "an included file",
-            words: &["compile", "p.idl"],
-            files: FILES,
-            status: 3,
-            out: b"",
-            err: b"cannot read q.idl\n",
-        },
-    ),
-    (
-        [0, 1, 3],
-        Run {
-            name: "the first byte, which is not put, and of the usage the third",
-            words: &["compile"],
-            files: FILES,
-            status: 4,
-            out: b"",
-            err: b"us",
-        },
-    ),
+/// The calls of a run over the files that fail, and what is to come of it.
+struct Failed {
+    fails: Failing,
+    name: &'static str,
+    words: &'static str,
+    status: u8,
+    out: &'static [u8],
+    err: &'static [u8],
+}
+
+const ROWS: [Failed; 12] = [
+    Failed {
+        fails: [0, 0, 0],
+        name: "none",
+        words: COMPILE,
+        status: 0,
+        out: &TYPELIB,
+        err: b"",
+    },
+    Failed {
+        fails: [1, 0, 0],
+        name: "the text",
+        words: COMPILE,
+        status: 3,
+        out: b"",
+        err: b"cannot read a.idl\n",
+    },
+    Failed {
+        fails: [0, 3, 0],
+        name: "the third byte",
+        words: COMPILE,
+        status: 4,
+        out: b"XP",
+        err: b"cannot write\n",
+    },
+    Failed {
+        fails: [0, 3, 2],
+        name: "the third byte, and of the report the second",
+        words: COMPILE,
+        status: 4,
+        out: b"XP",
+        err: b"c",
+    },
+    Failed {
+        fails: [1, 0, 4],
+        name: "the text, and of the report the fourth byte",
+        words: COMPILE,
+        status: 4,
+        out: b"",
+        err: b"can",
+    },
+    Failed {
+        fails: [1, 0, 0],
+        name: "the typelib",
+        words: CALL,
+        status: 3,
+        out: b"",
+        err: b"cannot read a.xpt\n",
+    },
+    Failed {
+        fails: [2, 0, 0],
+        name: "the script",
+        words: CALL,
+        status: 3,
+        out: b"",
+        err: b"cannot read s.txt\n",
+    },
+    Failed {
+        fails: [0, 3, 0],
+        name: "the third byte of a transcript",
+        words: CALL,
+        status: 4,
+        out: b"> ",
+        err: b"cannot write\n",
+    },
+    Failed {
+        fails: [1, 0, 0],
+        name: "the typelib of a listing",
+        words: "dump a.xpt",
+        status: 3,
+        out: b"",
+        err: b"cannot read a.xpt\n",
+    },
+    Failed {
+        fails: [0, 8, 0],
+        name: "the eighth byte of a listing",
+        words: "dump a.xpt",
+        status: 4,
+        out: b"typelib",
+        err: b"cannot write\n",
+    },
+    Failed {
+        fails: [2, 0, 0],
+        name: "an included file",
+        words: "compile p.idl",
+        status: 3,
+        out: b"",
+        err: b"cannot read q.idl\n",
+    },
+    Failed {
+        fails: [0, 1, 3],
+        name: "the first byte, which is not put, and of the usage the third",
+        words: "compile",
+        status: 4,
+        out: b"",
+        err: b"us",
+    },
 ];
+
+/// The run of a row comes to what it is to come to.
+fn check_row(rt: &impl Abort, alloc: Global, row: &Failed) {
+    let run = Run {
+        name: row.name,
+        words: row.words,
+        files: FILES,
+        status: row.status,
+        out: row.out,
+        err: row.err,
+    };
+    check_failing(rt, alloc, &run, &row.fails);
+}
+
+/// The run of each row comes to what it is to come to.
+fn check_rows(rt: &impl Abort, alloc: Global, rows: &[Failed]) {
+    for row in rows {
+        check_row(rt, alloc, row);
+    }
+}
 
 #[test]
 fn files_are_not_read_and_texts_not_written(rt: HostRuntime) {
-    for (fails, run) in &RUNS {
-        check_failing(&rt, rt.alloc(), run, *fails);
-    }
+    check_rows(&rt, rt.alloc(), &ROWS);
 }

@@ -30,9 +30,9 @@ result 80004001
 ";
 
 /// The words of the runs that compile and of those that call.
-pub const COMPILE: &[&str] = &["compile", "a.idl"];
+pub const COMPILE: &str = "compile a.idl";
 
-pub const CALL: &[&str] = &["call", "sysv64", "a.xpt", "s.txt"];
+pub const CALL: &str = "call sysv64 a.xpt s.txt";
 
 /// The interface that others follow.
 pub const SUPPORTS: &[u8] = b"\

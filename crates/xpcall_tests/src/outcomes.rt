@@ -6,11 +6,12 @@ use std::process::Abort;
 use xp_base::{CalmSink, CalmSource, List, MemSink, MemSource, Memory, Sink, Source};
 use xpcall_run::run;
 
-/// A run: its name, its words and its files, and what is to come of it.
+/// A run: its name, its words and its files, and what is to come of it. A space stands between two
+/// words, and no text stands for no words.
 #[derive(Clone, Copy)]
 pub struct Run<'a> {
     pub name: &'a str,
-    pub words: &'a [&'a str],
+    pub words: &'a str,
     pub files: &'a [(&'a str, &'a [u8])],
     pub status: u8,
     pub out: &'a [u8],
@@ -18,10 +19,13 @@ pub struct Run<'a> {
 }
 
 /// The words of a command line.
-fn owned(rt: &impl Abort, alloc: Global, words: &[&str]) -> Vec<String> {
+fn owned(rt: &impl Abort, alloc: Global, words: &str) -> Vec<String> {
     let mut list = Vec::new(alloc);
-    for word in words {
-        let word = String::from_str(alloc, *word).expect(rt, "a word");
+    if words.is_empty() {
+        return list;
+    }
+    for word in words.split(' ') {
+        let word = String::from_str(alloc, word).expect(rt, "a word");
         list.push(word).expect(rt, "words");
     }
     list
@@ -54,7 +58,7 @@ fn status_of<S: Source, O: Sink, B: Bench>(
 fn outcome_over<B: Bench>(
     rt: &impl Abort,
     alloc: Global,
-    words: &[&str],
+    words: &str,
     source: &mut CalmSource,
     bench: &mut B,
 ) -> (u8, CalmSink, CalmSink) {
@@ -70,7 +74,7 @@ fn outcome_over<B: Bench>(
 pub fn outcome<B: Bench>(
     rt: &impl Abort,
     alloc: Global,
-    words: &[&str],
+    words: &str,
     files: &[(&str, &[u8])],
     bench: &mut B,
 ) -> (u8, CalmSink, CalmSink) {
@@ -114,11 +118,10 @@ pub fn check_all(rt: &impl Abort, alloc: Global, runs: &[Run<'_>]) {
     }
 }
 
-/// The typelib of an IDL file among these files.
-pub fn compiled(rt: &impl Abort, alloc: Global, root: &str, files: &[(&str, &[u8])]) -> CalmSink {
-    let words = ["compile", root];
-    let (status, typelib, _) = outcome(rt, alloc, &words, files, &mut NoBench::new());
-    assert!(rt; status == 0, "the typelib of {root}");
+/// The typelib of a run over these files.
+pub fn compiled(rt: &impl Abort, alloc: Global, words: &str, files: &[(&str, &[u8])]) -> CalmSink {
+    let (status, typelib, _) = outcome(rt, alloc, words, files, &mut NoBench::new());
+    assert!(rt; status == 0, "at {words}");
     typelib
 }
 
@@ -149,8 +152,8 @@ fn failing_source(
 }
 
 /// The same run where calls fail, and each put takes one byte.
-pub fn check_failing(rt: &impl Abort, alloc: Global, run_of: &Run<'_>, fails: Failing) {
-    let [fetch, put, report] = fails;
+pub fn check_failing(rt: &impl Abort, alloc: Global, run_of: &Run<'_>, fails: &Failing) {
+    let [fetch, put, report] = *fails;
     let words = owned(rt, alloc, run_of.words);
     let fetches = failing(rt, alloc, fetch);
     let mut source = failing_source(alloc, run_of.files, fetches).expect(rt, "a source");

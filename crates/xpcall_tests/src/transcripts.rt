@@ -7,16 +7,27 @@ pub mod interfaces;
 mod refusals;
 mod replies;
 
-use crate::files::SUPPORTS;
+use crate::files::{COMPILE, SUPPORTS};
 use crate::outcomes::{Run, check_files, compiled};
 use std::alloc::Global;
 use std::process::Abort;
 
-/// A script over the typelib of an IDL file under a convention, and what comes of it.
+/// The words of a call under each convention.
+const SYSV64: &str = "call sysv64 a.xpt s.txt";
+
+const I386: &str = "call i386 a.xpt s.txt";
+
+const AAPCS64: &str = "call aapcs64 a.xpt s.txt";
+
+const MS64: &str = "call ms64 a.xpt s.txt";
+
+const AAPCS32: &str = "call aapcs32 a.xpt s.txt";
+
+/// A script over the typelib of an IDL file, the words of a call, and what comes of it.
 struct Played {
     name: &'static str,
     idl: &'static [u8],
-    convention: &'static str,
+    words: &'static str,
     script: &'static [u8],
     transcript: &'static [u8],
 }
@@ -24,10 +35,10 @@ struct Played {
 /// The script comes to its transcript.
 fn play(rt: &impl Abort, alloc: Global, played: &Played) {
     let idl = [("a.idl", played.idl), ("nsISupports.idl", SUPPORTS)];
-    let typelib = compiled(rt, alloc, "a.idl", &idl);
+    let typelib = compiled(rt, alloc, COMPILE, &idl);
     let run = Run {
         name: played.name,
-        words: &["call", played.convention, "a.xpt", "s.txt"],
+        words: played.words,
         files: &[],
         status: 0,
         out: played.transcript,

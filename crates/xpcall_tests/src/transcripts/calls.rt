@@ -1,13 +1,13 @@
 //! Calls: where arguments are placed, and which methods are called.
 
 use super::interfaces::{ADD, CONTEXT, HIDDEN, MIX, PAD, PICK, SEVEN};
-use super::{Played, play_all};
+use super::{AAPCS32, AAPCS64, I386, MS64, Played, SYSV64, play_all};
 
 const PLAYED: [Played; 13] = [
     Played {
         name: "a sum that comes out",
         idl: ADD,
-        convention: "sysv64",
+        words: SYSV64,
         script: b"\
 object o nsIT
 reply o nsIT.add a2=$a0+$a1
@@ -31,7 +31,7 @@ out 2 1
     Played {
         name: "the same on a stack of words of 4 bytes",
         idl: ADD,
-        convention: "i386",
+        words: I386,
         script: b"\
 object o nsIT
 reply o nsIT.add a2=$a0+$a1
@@ -55,7 +55,7 @@ out 2 1
     Played {
         name: "the same in eight registers",
         idl: ADD,
-        convention: "aapcs64",
+        words: AAPCS64,
         script: b"\
 object o nsIT
 reply o nsIT.add a2=$a0+$a1
@@ -79,7 +79,7 @@ out 2 1
     Played {
         name: "the same in four registers, behind room for them",
         idl: ADD,
-        convention: "ms64",
+        words: MS64,
         script: b"\
 object o nsIT
 reply o nsIT.add a2=$a0+$a1
@@ -103,7 +103,7 @@ out 2 1
     Played {
         name: "seven parameters",
         idl: SEVEN,
-        convention: "sysv64",
+        words: SYSV64,
         script: b"\
 object o nsIA
 call o nsIA.seven 1 2 3 4 5 6 7
@@ -123,7 +123,7 @@ result 80004001
     Played {
         name: "doubles past the registers",
         idl: MIX,
-        convention: "sysv64",
+        words: SYSV64,
         script: b"\
 object o nsIM
 call o nsIM.mix 0x1 0x2 7 0x3 0x4 0x5 0x6 0x7 0x8 0x9
@@ -143,7 +143,7 @@ result 80004001
     Played {
         name: "doubles in four registers",
         idl: MIX,
-        convention: "ms64",
+        words: MS64,
         script: b"\
 object o nsIM
 call o nsIM.mix 0x1 0x2 7 0x3 0x4 0x5 0x6 0x7 0x8 0x9
@@ -165,7 +165,7 @@ result 80004001
     Played {
         name: "no padding",
         idl: PAD,
-        convention: "i386",
+        words: I386,
         script: b"\
 object o nsID
 call o nsID.pad -2 1 255
@@ -185,7 +185,7 @@ result 80004001
     Played {
         name: "padding",
         idl: PAD,
-        convention: "aapcs32",
+        words: AAPCS32,
         script: b"\
 object o nsID
 call o nsID.pad -2 1 255
@@ -205,7 +205,7 @@ result 80004001
     Played {
         name: "a hidden method",
         idl: HIDDEN,
-        convention: "sysv64",
+        words: SYSV64,
         script: b"\
 object o nsIH
 call o nsIH.h
@@ -231,7 +231,7 @@ refused hidden
     Played {
         name: "the count of optional parameters",
         idl: PICK,
-        convention: "sysv64",
+        words: SYSV64,
         script: b"\
 object o nsIO
 reply o nsIO.pick a4=$a3
@@ -255,7 +255,7 @@ out 4 1
     Played {
         name: "a context",
         idl: CONTEXT,
-        convention: "sysv64",
+        words: SYSV64,
         script: b"\
 data c 00
 object o nsIC
@@ -293,7 +293,7 @@ result 80004001
     Played {
         name: "a context that is no address",
         idl: CONTEXT,
-        convention: "i386",
+        words: I386,
         script: b"\
 context 4294967296
 context $v

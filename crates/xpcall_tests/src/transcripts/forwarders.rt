@@ -1,13 +1,13 @@
 //! Proxies and bridges.
 
 use super::interfaces::{ADD, SHORT};
-use super::{Played, play_all};
+use super::{I386, Played, SYSV64, play_all};
 
 const PLAYED: [Played; 5] = [
     Played {
         name: "a proxy",
         idl: ADD,
-        convention: "sysv64",
+        words: SYSV64,
         script: b"\
 object o nsIT
 reply o nsIT.add a2=$a0+$a1
@@ -39,7 +39,7 @@ out 2 1
     Played {
         name: "a bridge",
         idl: SHORT,
-        convention: "sysv64",
+        words: SYSV64,
         script: b"\
 object o nsIE
 bridge q o aapcs64
@@ -64,7 +64,7 @@ result 80004001
     Played {
         name: "too many proxies",
         idl: ADD,
-        convention: "sysv64",
+        words: SYSV64,
         script: b"\
 object o nsIT
 proxy p1 o
@@ -127,7 +127,7 @@ refused depth
     Played {
         name: "a reply of a proxy",
         idl: ADD,
-        convention: "sysv64",
+        words: SYSV64,
         script: b"\
 object o nsIT
 proxy p o
@@ -145,7 +145,7 @@ refused proxy
     Played {
         name: "a bridge between words",
         idl: SHORT,
-        convention: "i386",
+        words: I386,
         script: b"\
 object o nsIE
 bridge q o aapcs64

@@ -1,13 +1,13 @@
 //! Frames that lines give.
 
 use super::interfaces::SHORT;
-use super::{Played, play_all};
+use super::{AAPCS32, I386, MS64, Played, SYSV64, play_all};
 
 const PLAYED: [Played; 4] = [
     Played {
         name: "a frame, and what is left free of it",
         idl: SHORT,
-        convention: "sysv64",
+        words: SYSV64,
         script: b"\
 object o nsIE
 enter o nsIE.sh rsi=deadbeefcafe8001 r9=7 xmm0=5
@@ -29,7 +29,7 @@ result 80004001
     Played {
         name: "a frame of bytes",
         idl: SHORT,
-        convention: "i386",
+        words: I386,
         script: b"\
 object o nsIE
 enter o nsIE.sh stack=018000
@@ -49,7 +49,7 @@ result 80004001
     Played {
         name: "a frame that is too short, and one that is not",
         idl: SHORT,
-        convention: "aapcs32",
+        words: AAPCS32,
         script: b"\
 object o nsIE
 enter o nsIE.sh
@@ -69,7 +69,7 @@ result 80004001
     Played {
         name: "a frame that lacks the room for registers",
         idl: SHORT,
-        convention: "ms64",
+        words: MS64,
         script: b"\
 object o nsIE
 enter o nsIE.sh

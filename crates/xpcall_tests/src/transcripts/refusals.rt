@@ -1,13 +1,13 @@
 //! Lines that are refused.
 
 use super::interfaces::ADD;
-use super::{Played, play_all};
+use super::{Played, SYSV64, play_all};
 
 const PLAYED: [Played; 3] = [
     Played {
         name: "refusals",
         idl: ADD,
-        convention: "sysv64",
+        words: SYSV64,
         script: b"\
 object o nsIT
 reply o nsIT.add a2=$a0+$a1
@@ -58,7 +58,7 @@ refused wrong interface
     Played {
         name: "a heap that is full",
         idl: ADD,
-        convention: "sysv64",
+        words: SYSV64,
         script: b"\
 data z zero 16777216
 data y 00
@@ -76,7 +76,7 @@ refused heap
     Played {
         name: "a block that is too big",
         idl: ADD,
-        convention: "sysv64",
+        words: SYSV64,
         script: b"\
 data z zero 16777217
 ",

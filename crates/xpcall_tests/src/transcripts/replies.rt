@@ -1,13 +1,13 @@
 //! Replies: what comes out of a call, and what they leave in memory.
 
 use super::interfaces::{ADD, FLAG, LIST, PART, TITLE};
-use super::{Played, play_all};
+use super::{Played, SYSV64, play_all};
 
 const PLAYED: [Played; 7] = [
     Played {
         name: "a reply with a result, and another",
         idl: ADD,
-        convention: "sysv64",
+        words: SYSV64,
         script: b"\
 object o nsIT
 reply o nsIT.add a2=7 result=80004005
@@ -46,7 +46,7 @@ out 2 7
     Played {
         name: "bytes for a string",
         idl: TITLE,
-        convention: "sysv64",
+        words: SYSV64,
         script: b"\
 data b 00000000
 object o nsIS
@@ -75,7 +75,7 @@ result 00000000
     Played {
         name: "an array that comes out",
         idl: LIST,
-        convention: "sysv64",
+        words: SYSV64,
         script: b"\
 data buf 0100feff0300
 object o nsIL
@@ -103,7 +103,7 @@ out 1 0x107d0 [1 -2 3]
     Played {
         name: "an object that is asked for by its interface",
         idl: ADD,
-        convention: "sysv64",
+        words: SYSV64,
         script: b"\
 data i iid 01020304-0506-0708-090a-0b0c0d0e0f10
 object o nsIT
@@ -142,7 +142,7 @@ out 2 0
     Played {
         name: "a reply by memory",
         idl: FLAG,
-        convention: "sysv64",
+        words: SYSV64,
         script: b"\
 data d 1122334455667788
 object o nsIB
@@ -176,7 +176,7 @@ result 80004003
     Played {
         name: "a part of an array",
         idl: PART,
-        convention: "sysv64",
+        words: SYSV64,
         script: b"\
 data buf 0100feff0300
 object o nsIP
@@ -204,7 +204,7 @@ out 2 0x107d0 [1 -2]
     Played {
         name: "more than all of an array",
         idl: PART,
-        convention: "sysv64",
+        words: SYSV64,
         script: b"\
 data buf 0100feff0300
 object o nsIP
