@@ -6,3 +6,8 @@ use std::process::Abort;
 pub(crate) fn check(rt: &impl Abort, of: &[u8], found: &[u8], wanted: &[u8]) {
     assert!(rt; found == wanted, "of {of:?}: {found:?}");
 }
+
+/// The words that were found of a text are those that were wanted.
+pub(crate) fn check_words(rt: &impl Abort, of: &str, found: &str, wanted: &str) {
+    assert!(rt; found == wanted, "of {of}: {found}");
+}

@@ -13,13 +13,13 @@ use xp_base::{
 };
 
 /// What it is of, files, names to begin with, and what the closure comes to: the names in order, or
-/// its fault.
-#[derive(Clone, Copy)]
-struct Row<'a> {
-    name: &'a str,
-    files: &'a [(&'a [u8], &'a [u8])],
-    roots: &'a [&'a [u8]],
-    outcome: &'a [u8],
+/// its fault. Each file ends with a bar, and has its name before the first `=`. Between two names
+/// stands a space.
+struct Row {
+    name: &'static str,
+    files: &'static str,
+    roots: &'static str,
+    outcome: &'static str,
 }
 
 /// The names of files, each behind a space.
@@ -31,16 +31,14 @@ fn add_names(to: &mut Bytes, files: &[ClosedFile]) -> Result<(), Memory> {
     Ok(())
 }
 
-/// A word for a fault, the name with it, and its line; 0 where it has none.
-fn add_fault(alloc: Global, to: &mut Bytes, fault: ClosureError) -> Result<(), Memory> {
-    let (word, name, line): (&'static [u8], Bytes, u32) = match fault {
-        ClosureError::SourceFault(name) => (b"failed ", name, 0),
-        ClosureError::NoFile(name) => (b"absent ", name, 0),
-        ClosureError::TooLong(name) => (b"long ", name, 0),
-        ClosureError::Lex { name, line } => (b"token ", name, line),
-        ClosureError::Syntax { name, line } => (b"syntax ", name, line),
-        ClosureError::Memory => (b"memory ", Bytes::new(alloc), 0),
-    };
+/// Adds the name of a file behind a word, and the number of a line.
+fn add_line(
+    alloc: Global,
+    to: &mut Bytes,
+    word: &[u8],
+    name: &Bytes,
+    line: u32,
+) -> Result<(), Memory> {
     let line = dec_text(alloc, line as i128)?;
     to.append(word)?;
     to.append(name.as_slice())?;
@@ -48,14 +46,29 @@ fn add_fault(alloc: Global, to: &mut Bytes, fault: ClosureError) -> Result<(), M
     to.append(line.as_slice())
 }
 
-fn bytes_of(rt: &impl Abort, alloc: Global, bytes: &[u8]) -> Bytes {
-    Bytes::copy(alloc, bytes).expect(rt, "bytes")
+/// Adds a word for a fault, the name with it, and its line; 0 where it has none.
+fn add_fault(alloc: Global, to: &mut Bytes, fault: &ClosureError) -> Result<(), Memory> {
+    match fault {
+        ClosureError::SourceFault(name) => add_line(alloc, to, b"failed ", name, 0),
+        ClosureError::NoFile(name) => add_line(alloc, to, b"absent ", name, 0),
+        ClosureError::TooLong(name) => add_line(alloc, to, b"long ", name, 0),
+        ClosureError::Lex { name, line } => add_line(alloc, to, b"token ", name, *line),
+        ClosureError::Syntax { name, line } => add_line(alloc, to, b"syntax ", name, *line),
+        ClosureError::Memory => to.append(b"memory"),
+    }
 }
 
-fn names_of(rt: &impl Abort, alloc: Global, names: &[&[u8]]) -> List<Bytes> {
+/// Adds a name to a list of them.
+fn add_root(rt: &impl Abort, alloc: Global, list: &mut List<Bytes>, name: &str) {
+    let name = Bytes::copy(alloc, name.as_bytes()).expect(rt, name);
+    list.push(name).expect(rt, "names");
+}
+
+/// The names of a text, in which a space stands between two.
+fn names_of(rt: &impl Abort, alloc: Global, names: &str) -> List<Bytes> {
     let mut list = List::new(alloc);
-    for name in names {
-        list.push(bytes_of(rt, alloc, *name)).expect(rt, "names");
+    for name in names.split_whitespace() {
+        add_root(rt, alloc, &mut list, name);
     }
     list
 }
@@ -64,7 +77,7 @@ fn names_of(rt: &impl Abort, alloc: Global, names: &[&[u8]]) -> List<Bytes> {
 fn add_closure(
     alloc: Global,
     to: &mut Bytes,
-    closed: Result<List<ClosedFile>, ClosureError>,
+    closed: &Result<List<ClosedFile>, ClosureError>,
 ) -> Result<(), Memory> {
     match closed {
         Ok(list) => add_names(to, list.as_slice()),
@@ -73,106 +86,118 @@ fn add_closure(
 }
 
 /// What the closure of the roots comes to, in words.
-fn outcome<S: Source>(rt: &impl Abort, alloc: Global, files: &mut S, roots: &[&[u8]]) -> Bytes {
+fn outcome<S: Source>(rt: &impl Abort, alloc: Global, files: &mut S, roots: &str) -> Bytes {
     let roots = names_of(rt, alloc, roots);
     assert!(rt; roots.len() <= 65_535);
+    let closed = closure(alloc, files, &roots);
     let mut text = Bytes::new(alloc);
-    add_closure(alloc, &mut text, closure(alloc, files, &roots)).expect(rt, "a text");
+    add_closure(alloc, &mut text, &closed).expect(rt, "a text");
     text
 }
 
-fn source_of(rt: &impl Abort, alloc: Global, files: &[(&[u8], &[u8])]) -> CalmSource {
+/// Adds a file, whose name stands before the first `=`.
+fn add_file(rt: &impl Abort, source: &mut CalmSource, file: &str) {
+    let (name, text) = file.split_once('=').expect(rt, file);
+    source
+        .add(name.as_bytes(), text.as_bytes())
+        .expect(rt, file);
+}
+
+/// A source of the files of a text, each of which ends with a bar.
+fn source_of(rt: &impl Abort, alloc: Global, files: &str) -> CalmSource {
     let mut source = CalmSource::new(alloc);
-    for (name, text) in files {
-        source.add(*name, *text).expect(rt, "a source");
+    for file in files.split_terminator('|') {
+        add_file(rt, &mut source, file);
     }
     source
 }
 
 /// Files, and what their closures come to.
-const ROWS: [Row<'static>; 11] = [
+const ROWS: [Row; 11] = [
     Row {
         name: "two files that include each other",
-        files: &[(b"a", b"#include \"b\""), (b"b", b"#include \"a\"")],
-        roots: &[b"a"],
-        outcome: b" b a",
+        files: "a=#include \"b\"|b=#include \"a\"|",
+        roots: "a",
+        outcome: " b a",
     },
     Row {
         name: "a root that is given twice",
-        files: &[(b"a", b"")],
-        roots: &[b"a", b"a"],
-        outcome: b" a",
+        files: "a=|",
+        roots: "a a",
+        outcome: " a",
     },
     Row {
         name: "a root that another root includes, behind it",
-        files: &[(b"a", b"#include \"b\""), (b"b", b"")],
-        roots: &[b"a", b"b"],
-        outcome: b" b a",
+        files: "a=#include \"b\"|b=|",
+        roots: "a b",
+        outcome: " b a",
     },
     Row {
         name: "a root that another root includes, before it",
-        files: &[(b"a", b"#include \"b\""), (b"b", b"")],
-        roots: &[b"b", b"a"],
-        outcome: b" b a",
+        files: "a=#include \"b\"|b=|",
+        roots: "b a",
+        outcome: " b a",
     },
     Row {
         name: "in order of mention, and depth first",
-        files: &[
-            (b"a", b"#include \"b\"\n#include \"c\"\n#include \"d\""),
-            (b"b", b"#include \"d\""),
-            (b"c", b""),
-            (b"d", b""),
-        ],
-        roots: &[b"a"],
-        outcome: b" d b c a",
+        files: "a=#include \"b\"\n#include \"c\"\n#include \"d\"|b=#include \"d\"|c=|d=|",
+        roots: "a",
+        outcome: " d b c a",
     },
     Row {
         name: "no roots",
-        files: &[],
-        roots: &[],
-        outcome: b"",
+        files: "",
+        roots: "",
+        outcome: "",
     },
     Row {
         name: "an absent root",
-        files: &[],
-        roots: &[b"a"],
-        outcome: b"absent a:0",
+        files: "",
+        roots: "a",
+        outcome: "absent a:0",
     },
     Row {
         name: "an absent include",
-        files: &[(b"a", b"#include \"c\"")],
-        roots: &[b"a"],
-        outcome: b"absent c:0",
+        files: "a=#include \"c\"|",
+        roots: "a",
+        outcome: "absent c:0",
     },
     Row {
         name: "a fault in an included file before an absent later include",
-        files: &[
-            (b"a", b"#include \"b\"\n#include \"c\""),
-            (b"b", b"\ninterface {"),
-        ],
-        roots: &[b"a"],
-        outcome: b"syntax b:2",
+        files: "a=#include \"b\"\n#include \"c\"|b=\ninterface {|",
+        roots: "a",
+        outcome: "syntax b:2",
     },
     Row {
         name: "a place with no token before an absent later include",
-        files: &[(b"a", b"#include \"b\"\n#include \"c\""), (b"b", b"?")],
-        roots: &[b"a"],
-        outcome: b"token b:1",
+        files: "a=#include \"b\"\n#include \"c\"|b=?|",
+        roots: "a",
+        outcome: "token b:1",
     },
     Row {
         name: "a file's own fault before those of its includes",
-        files: &[(b"a", b"#include \"c\"\ninterface")],
-        roots: &[b"a"],
-        outcome: b"syntax a:2",
+        files: "a=#include \"c\"\ninterface|",
+        roots: "a",
+        outcome: "syntax a:2",
     },
 ];
 
+/// A closure comes to its outcome.
+fn check_row(rt: &impl Abort, alloc: Global, row: &Row) {
+    let mut files = source_of(rt, alloc, row.files);
+    let found = outcome(rt, alloc, &mut files, row.roots);
+    check(
+        rt,
+        row.name.as_bytes(),
+        found.as_slice(),
+        row.outcome.as_bytes(),
+    );
+}
+
 /// Each closure comes to its outcome.
-fn check_rows(rt: &impl Abort, alloc: Global, rows: &[Row<'_>]) {
+fn check_rows(rt: &impl Abort, alloc: Global, rows: &[Row]) {
     for row in rows {
-        let mut files = source_of(rt, alloc, row.files);
-        let found = outcome(rt, alloc, &mut files, row.roots);
-        check(rt, row.name.as_bytes(), found.as_slice(), row.outcome);
+        check_row(rt, alloc, row);
     }
 }
 
@@ -194,7 +219,7 @@ fn failing_source(rt: &impl Abort, alloc: Global) -> MemSource {
 #[test]
 fn a_source_fails_at_its_second_fetch(rt: HostRuntime) {
     let mut files = failing_source(&rt, rt.alloc());
-    let found = outcome(&rt, rt.alloc(), &mut files, &[b"a"]);
+    let found = outcome(&rt, rt.alloc(), &mut files, "a");
     check(&rt, b"a fetch that fails", found.as_slice(), b"failed b:0");
 }
 
@@ -208,17 +233,14 @@ fn spaces(rt: &impl Abort, alloc: Global, count: usize) -> Bytes {
     text
 }
 
-/// The names of files, of which sixteen are as long as a file may be.
-const SEVENTEEN: [&[u8]; 17] = [
-    b"a", b"b", b"c", b"d", b"e", b"f", b"g", b"h", b"i", b"j", b"k", b"l", b"m", b"n", b"o", b"p",
-    b"q",
-];
+/// The names of files, of which the first sixteen are as long as a file may be.
+const SEVENTEEN: &str = "a b c d e f g h i j k l m n o p q";
 
 /// Adds as much text to each of these files but the last, which has one byte.
 fn add_full(rt: &impl Abort, files: &mut CalmSource, text: &[u8]) {
     assert!(rt; text.len() == MAX_TEXT);
-    for name in &SEVENTEEN {
-        files.add(*name, text).expect(rt, "a full file");
+    for name in SEVENTEEN.split_whitespace() {
+        files.add(name.as_bytes(), text).expect(rt, name);
     }
     files.add(b"q", b" ").expect(rt, "one byte");
 }
@@ -228,7 +250,7 @@ fn sixteen_mebibytes_are_the_most_together(rt: HostRuntime) {
     let full = spaces(&rt, rt.alloc(), 1024);
     let mut files = CalmSource::new(rt.alloc());
     add_full(&rt, &mut files, full.as_slice());
-    let found = outcome(&rt, rt.alloc(), &mut files, &SEVENTEEN);
+    let found = outcome(&rt, rt.alloc(), &mut files, SEVENTEEN);
     check(&rt, b"one byte too many", found.as_slice(), b"long q:0");
 }
 
@@ -244,7 +266,7 @@ fn too_long(rt: &impl Abort, alloc: Global) -> CalmSource {
 #[test]
 fn a_file_has_at_most_a_mebibyte(rt: HostRuntime) {
     let mut files = too_long(&rt, rt.alloc());
-    let found = outcome(&rt, rt.alloc(), &mut files, &[b"a"]);
+    let found = outcome(&rt, rt.alloc(), &mut files, "a");
     check(&rt, b"a mebibyte and a byte", found.as_slice(), b"long a:0");
 }
 
@@ -327,7 +349,7 @@ fn many_includes(rt: HostRuntime) {
     let wanted = all_names(&rt, rt.alloc());
     for chain in &[true, false] {
         let mut files = Many { chain: *chain };
-        let found = outcome(&rt, rt.alloc(), &mut files, &[b"20000"]);
+        let found = outcome(&rt, rt.alloc(), &mut files, "20000");
         let is_told = found.as_slice() == wanted.as_slice();
         assert!(rt; is_told, "in a chain: {chain}");
     }

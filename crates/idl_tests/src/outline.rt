@@ -58,6 +58,14 @@ fn add(outline: &mut Bytes, word: &[u8]) -> Result<(), Memory> {
     outline.append(word)
 }
 
+/// Adds words, each with a space before it.
+fn add_words(outline: &mut Bytes, words: &[&[u8]]) -> Result<(), Memory> {
+    for word in words {
+        add(outline, *word)?;
+    }
+    Ok(())
+}
+
 /// Adds a line feed and the number of a line.
 fn add_line(alloc: Global, outline: &mut Bytes, line: u32) -> Result<(), Memory> {
     let number = dec_text(alloc, line as i128)?;
@@ -66,24 +74,20 @@ fn add_line(alloc: Global, outline: &mut Bytes, line: u32) -> Result<(), Memory>
     outline.append(b":")
 }
 
-/// What stands in parentheses behind an attribute's name, as a word or two.
-fn value_words<'a>(value: &'a AttrValue) -> (&'static [u8], &'a [u8]) {
+/// Adds what stands in parentheses behind an attribute's name, where something does.
+fn add_value(outline: &mut Bytes, value: &AttrValue) -> Result<(), Memory> {
     match value {
-        AttrValue::Absent => (b"", b""),
-        AttrValue::Word(name) => (b"word", name.as_slice()),
-        AttrValue::Iid(text) => (b"iid", text.as_slice()),
+        AttrValue::Absent => Ok(()),
+        AttrValue::Word(name) => add_words(outline, &[b"word", name.as_slice()]),
+        AttrValue::Iid(text) => add_words(outline, &[b"iid", text.as_slice()]),
     }
 }
 
 fn add_attributes(outline: &mut Bytes, attrs: &[Attr]) -> Result<(), Memory> {
     for attr in attrs {
-        let (kind, value) = value_words(&attr.value);
         outline.append(b" @")?;
         outline.append(attr.name.as_slice())?;
-        if !kind.is_empty() {
-            add(outline, kind)?;
-            add(outline, value)?;
-        }
+        add_value(outline, &attr.value)?;
     }
     Ok(())
 }
@@ -93,8 +97,7 @@ fn add_params(outline: &mut Bytes, params: &[ParamDecl]) -> Result<(), Memory> {
         outline.append(b",")?;
         add_attributes(outline, param.attrs.as_slice())?;
         add(outline, direction_text(param.dir))?;
-        add(outline, type_text(&param.of))?;
-        add(outline, param.name.as_slice())?;
+        add_words(outline, &[type_text(&param.of), param.name.as_slice()])?;
     }
     Ok(())
 }
@@ -110,10 +113,7 @@ fn add_member(outline: &mut Bytes, body: &MemberBody) -> Result<(), Memory> {
     match body {
         MemberBody::Code => add(outline, b"code"),
         MemberBody::Constant { of, name, value } => {
-            add(outline, b"const")?;
-            add(outline, type_text(of))?;
-            add(outline, name.as_slice())?;
-            add(outline, b"=")?;
+            add_words(outline, &[b"const", type_text(of), name.as_slice(), b"="])?;
             add_steps(outline, value)
         }
         MemberBody::Attribute {
@@ -124,9 +124,7 @@ fn add_member(outline: &mut Bytes, body: &MemberBody) -> Result<(), Memory> {
         } => {
             add_attributes(outline, attrs.as_slice())?;
             let verb: &[u8] = if *readonly { b"readonly" } else { b"writable" };
-            add(outline, verb)?;
-            add(outline, type_text(of))?;
-            add(outline, name.as_slice())
+            add_words(outline, &[verb, type_text(of), name.as_slice()])
         }
         MemberBody::Method {
             attrs,
@@ -135,9 +133,7 @@ fn add_member(outline: &mut Bytes, body: &MemberBody) -> Result<(), Memory> {
             params,
         } => {
             add_attributes(outline, attrs.as_slice())?;
-            add(outline, b"method")?;
-            add(outline, type_text(of))?;
-            add(outline, name.as_slice())?;
+            add_words(outline, &[b"method", type_text(of), name.as_slice()])?;
             add_params(outline, params.as_slice())
         }
     }
@@ -153,38 +149,28 @@ fn add_members(alloc: Global, outline: &mut Bytes, members: &[Member]) -> Result
 
 fn add_interface(alloc: Global, outline: &mut Bytes, i: &Interface) -> Result<(), Memory> {
     add_attributes(outline, i.attrs.as_slice())?;
-    add(outline, b"interface")?;
-    add(outline, i.name.as_slice())?;
+    add_words(outline, &[b"interface", i.name.as_slice()])?;
     if let Some(parent) = &i.parent {
-        add(outline, b":")?;
-        add(outline, parent.as_slice())?;
+        add_words(outline, &[b":", parent.as_slice()])?;
     }
     add_members(alloc, outline, i.members.as_slice())
 }
 
 fn add_item(alloc: Global, outline: &mut Bytes, body: &ItemBody) -> Result<(), Memory> {
     match body {
-        ItemBody::Include(name) => {
-            add(outline, b"include")?;
-            add(outline, name.as_slice())
-        }
+        ItemBody::Include(name) => { add_words(outline, &[b"include", name.as_slice()]) }
         ItemBody::Code => add(outline, b"code"),
         ItemBody::Typedef { of, name } => {
-            add(outline, b"typedef")?;
-            add(outline, type_text(of))?;
-            add(outline, name.as_slice())
+            add_words(outline, &[b"typedef", type_text(of), name.as_slice()])
         }
         ItemBody::Native { attrs, name, text } => {
             add_attributes(outline, attrs.as_slice())?;
-            add(outline, b"native")?;
-            add(outline, name.as_slice())?;
-            add(outline, b"is")?;
-            add(outline, text.as_slice())
+            add_words(
+                outline,
+                &[b"native", name.as_slice(), b"is", text.as_slice()],
+            )
         }
-        ItemBody::Forward { name } => {
-            add(outline, b"forward")?;
-            add(outline, name.as_slice())
-        }
+        ItemBody::Forward { name } => { add_words(outline, &[b"forward", name.as_slice()]) }
         ItemBody::Interface(interface) => add_interface(alloc, outline, interface),
     }
 }

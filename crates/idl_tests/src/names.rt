@@ -1,5 +1,6 @@
 //! The scopes of texts, and the first faults of those that have none.
 
+use crate::cases::check_words;
 use crate::declared::resolved;
 use idl_names::{IdlError, Scope, ScopeBody};
 use std::alloc::{AllocError, Global};
@@ -22,16 +23,11 @@ fn told(alloc: Global, resolved: &Result<Scope, IdlError>) -> Result<String, All
     }
 }
 
-/// What was found of a text is what was wanted.
-fn check(rt: &impl Abort, text: &str, found: &str, wanted: &str) {
-    assert!(rt; found == wanted, "of {text}: {found}");
-}
-
 /// A text comes to what is wanted.
 fn check_text(rt: &impl Abort, alloc: Global, text: &str, wanted: &str) {
     let resolved = resolved(rt, alloc, text.as_bytes());
     let found = told(alloc, &resolved).expect(rt, text);
-    check(rt, text, found.as_str(), wanted);
+    check_words(rt, text, found.as_str(), wanted);
 }
 
 /// The row of a table, in two parts.
@@ -193,7 +189,7 @@ fn check_value(rt: &impl Abort, alloc: Global, expression: &str, wanted: &str) {
     let text = text.expect(rt, expression);
     let resolved = resolved(rt, alloc, text.as_bytes());
     let found = told_value(alloc, &resolved).expect(rt, expression);
-    check(rt, expression, found.as_str(), wanted);
+    check_words(rt, expression, found.as_str(), wanted);
 }
 
 /// Expressions, each behind its value.

@@ -4,13 +4,18 @@ use std::alloc::Global;
 use xp_base::{Bytes, Memory, hex_text};
 
 /// How a text begins, what it has so many times, before and behind the number of the time, and how
-/// it ends.
+/// it ends; and what becomes of it, with the numbers of the interface and the member that have too
+/// much.
 pub(crate) struct LongText {
+    pub name: &'static str,
     pub begin: &'static [u8],
     pub before: &'static [u8],
     pub behind: &'static [u8],
     pub times: u32,
     pub end: &'static [u8],
+    pub outcome: &'static str,
+    pub iface: u32,
+    pub member: u32,
 }
 
 fn add_all(text: &mut Bytes, pieces: &[&[u8]]) -> Result<(), Memory> {
