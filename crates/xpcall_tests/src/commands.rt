@@ -1,7 +1,7 @@
 //! Words that are no command, and files that are absent.
 
 use crate::files::{CALL, COMPILE, TYPELIB};
-use crate::outcomes::{Run, check, check_all};
+use crate::outcomes::{Run, check};
 use std::alloc::Global;
 use std::process::Abort;
 
@@ -40,34 +40,32 @@ fn words_are_refused(rt: HostRuntime) {
     }
 }
 
-const ABSENT: [Run<'static>; 3] = [
-    Run {
-        name: "no IDL file",
-        words: COMPILE,
-        files: &[],
-        status: 6,
-        out: b"",
-        err: b"no file a.idl\n",
-    },
-    Run {
-        name: "no typelib",
-        words: CALL,
-        files: &[],
-        status: 6,
-        out: b"",
-        err: b"no file a.xpt\n",
-    },
-    Run {
-        name: "no script",
-        words: CALL,
-        files: &[("a.xpt", &TYPELIB)],
-        status: 6,
-        out: b"",
-        err: b"no file s.txt\n",
-    },
+/// What is absent, the words that ask for it, whether a typelib is there, and what is written.
+const ABSENT: [(&str, &str, bool, &str); 4] = [
+    ("no IDL file", COMPILE, false, "no file a.idl\n"),
+    ("no typelib to list", "dump a.xpt", false, "no file a.xpt\n"),
+    ("no typelib to call", CALL, false, "no file a.xpt\n"),
+    ("no script", CALL, true, "no file s.txt\n"),
 ];
+
+/// A run that asks for an absent file comes to what it is to come to.
+fn check_absent(rt: &impl Abort, alloc: Global, row: &(&str, &str, bool, &str)) {
+    let (name, words, has_typelib, err) = row;
+    let files: [(&str, &[u8]); 1] = [("a.xpt", &TYPELIB)];
+    let run = Run {
+        name,
+        words,
+        files: &files[..usize::from(*has_typelib)],
+        status: 6,
+        out: b"",
+        err: err.as_bytes(),
+    };
+    check(rt, alloc, &run);
+}
 
 #[test]
 fn files_are_absent(rt: HostRuntime) {
-    check_all(&rt, rt.alloc(), &ABSENT);
+    for row in &ABSENT {
+        check_absent(&rt, rt.alloc(), row);
+    }
 }

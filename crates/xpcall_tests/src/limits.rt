@@ -67,7 +67,6 @@ fn files_are_too_long(rt: HostRuntime) {
 
 /// How a text begins, what it has so many times, before and behind the number of the time, and how
 /// it ends; and the status of a run that compiles it.
-#[derive(Clone, Copy)]
 struct LongText {
     name: &'static str,
     begin: &'static [u8],
@@ -78,41 +77,43 @@ struct LongText {
     status: u8,
 }
 
-const METHODS: LongText = LongText {
-    name: "250 methods",
-    begin: b"[uuid(00000001-0002-0003-0405-060708090a0b)] interface nsIA {",
-    before: b" void m",
-    behind: b"();",
-    times: 250,
-    end: b" };",
-    status: 0,
-};
-
-/// A method of one parameter more than the text repeats.
-const PARAMETERS: LongText = LongText {
-    name: "255 parameters",
-    begin: b"[uuid(00000001-0002-0003-0405-060708090a0b)] interface nsIA { void m(in long q",
-    before: b", in long p",
-    behind: b"",
-    times: 254,
-    end: b"); };",
-    status: 0,
-};
-
+/// Texts at a limit and past it. A method has one parameter more than the text repeats.
 const LONG_TEXTS: [LongText; 4] = [
-    METHODS,
+    LongText {
+        name: "250 methods",
+        begin: b"[uuid(00000001-0002-0003-0405-060708090a0b)] interface nsIA {",
+        before: b" void m",
+        behind: b"();",
+        times: 250,
+        end: b" };",
+        status: 0,
+    },
     LongText {
         name: "251 methods",
+        begin: b"[uuid(00000001-0002-0003-0405-060708090a0b)] interface nsIA {",
+        before: b" void m",
+        behind: b"();",
         times: 251,
+        end: b" };",
         status: 10,
-        ..METHODS
     },
-    PARAMETERS,
+    LongText {
+        name: "255 parameters",
+        begin: b"[uuid(00000001-0002-0003-0405-060708090a0b)] interface nsIA { void m(in long q",
+        before: b", in long p",
+        behind: b"",
+        times: 254,
+        end: b"); };",
+        status: 0,
+    },
     LongText {
         name: "256 parameters",
+        begin: b"[uuid(00000001-0002-0003-0405-060708090a0b)] interface nsIA { void m(in long q",
+        before: b", in long p",
+        behind: b"",
         times: 255,
+        end: b"); };",
         status: 10,
-        ..PARAMETERS
     },
 ];
 
