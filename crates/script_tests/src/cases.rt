@@ -1,5 +1,5 @@
-//! What the tests share: scripts of texts, values as texts, and the comparison of what came of a
-//! case with what was wanted.
+//! What the tests share: scripts of texts, and the comparison of what came of a case with what
+//! was wanted.
 
 use call_scripts::{Line, Script, read_script};
 use std::alloc::Global;
@@ -13,9 +13,25 @@ pub(crate) fn check(rt: &impl Abort, case: &str, found: &[u8], wanted: &str) {
     assert!(rt; found == wanted, "at {case}: {found}");
 }
 
+/// What was to hold of a case holds.
+pub(crate) fn check_holds<T: Debug>(rt: &impl Abort, case: &T, holds: bool) {
+    assert!(rt; holds, "at {case:?}");
+}
+
 /// A value, as it is written for one who looks for a fault.
 pub(crate) fn shown<T: Debug>(rt: &impl Abort, alloc: Global, value: &T) -> String {
     format!(in alloc; "{value:?}").expect(rt, "a text")
+}
+
+/// A value is what was wanted of a case, as it is written for one who looks for a fault.
+pub(crate) fn check_shown<T: Debug>(
+    rt: &impl Abort,
+    alloc: Global,
+    case: &str,
+    value: &T,
+    wanted: &str,
+) {
+    check(rt, case, shown(rt, alloc, value).as_bytes(), wanted);
 }
 
 /// The script of a text.
@@ -26,6 +42,7 @@ pub(crate) fn script_of(rt: &impl Abort, alloc: Global, text: &str) -> Script {
 
 /// The one line of a script.
 pub(crate) fn only_line<'a>(rt: &impl Abort, script: &'a Script) -> &'a Line {
-    assert!(rt; script.lines.len() == 1, "one line");
-    script.lines.get(0).expect(rt, "a line")
+    let lines = script.lines.as_slice();
+    assert!(rt; lines.len() == 1);
+    &lines[0]
 }

@@ -54,25 +54,21 @@ fn entered(rt: &impl Abort, alloc: Global, conv: Conv, items: &[EnterItem]) -> B
     frame_lines(alloc, conv, machine.frame()).expect(rt, "a frame")
 }
 
-/// What comes of a text of one line.
-fn entered_by(rt: &impl Abort, alloc: Global, conv: Conv, text: &str) -> Bytes {
+/// A line comes to its frame, or is refused.
+fn check_row(rt: &impl Abort, alloc: Global, row: &(Conv, &str, &str)) {
+    let (conv, text, wanted) = row;
     let script = script_of(rt, alloc, text);
     let items: &[EnterItem] = match &only_line(rt, &script).act {
         Act::Enter { items, .. } => items.as_slice(),
         _ => &[],
     };
-    entered(rt, alloc, conv, items)
-}
-
-/// Each line comes to its frame, or is refused.
-fn check_rows(rt: &impl Abort, alloc: Global, rows: &[(Conv, &str, &str)]) {
-    for (conv, text, wanted) in rows {
-        let frame = entered_by(rt, alloc, *conv, text);
-        check(rt, text, frame.as_slice(), wanted);
-    }
+    let frame = entered(rt, alloc, *conv, items);
+    check(rt, text, frame.as_slice(), wanted);
 }
 
 #[test]
 fn frames_are_those_of_their_lines(rt: HostRuntime) {
-    check_rows(&rt, rt.alloc(), &ROWS);
+    for row in &ROWS {
+        check_row(&rt, rt.alloc(), row);
+    }
 }

@@ -2,10 +2,11 @@
 
 ghost use Rattle.std.specs.Prelude.{None};
 
-use crate::runs::{SUMS, ran};
+use crate::cases::check_holds;
+use crate::runs::{SUMS, run_text};
 use crate::typelibs::ADDS;
 use call_model::Conv;
-use machine_bench::{Bench, NoBench};
+use machine_bench::Bench;
 use object_memory::Machine;
 use std::alloc::Global;
 use std::process::Abort;
@@ -34,48 +35,6 @@ result 00000000
 out 2 7
 ";
 
-/// Runs the two sums into a sink, before a bench.
-fn run_sums<B: Bench>(
-    rt: &impl Abort,
-    alloc: Global,
-    out: &mut MemSink,
-    bench: &mut B,
-) -> Result<(), RunFault> {
-    match ran(rt, alloc, &ADDS, Conv::SysV64, SUMS, out, bench) {
-        Ok(_) => Ok(()),
-        Err(fault) => Err(fault),
-    }
-}
-
-/// A sink that takes a byte at a time, and fails when it has taken so many.
-fn sink_failing_after(alloc: Global, taken: usize) -> Result<MemSink, Memory> {
-    let mut fails = List::new(alloc);
-    fails.push((taken as u64).saturating_add(1))?;
-    Ok(MemSink::new(alloc, 1, fails))
-}
-
-/// Whether a run into a sink that fails after so many bytes fails at the sink, unless these are
-/// all, and whether the sink keeps these bytes.
-fn keeps(rt: &impl Abort, alloc: Global, taken: usize) -> bool {
-    let mut out = sink_failing_after(alloc, taken).expect(rt, "a sink");
-    let ran = run_sums(rt, alloc, &mut out, &mut NoBench::new());
-    let is_whole = taken == TRANSCRIPT_OF_SUMS.len();
-    let is_told = match ran {
-        Ok(()) => is_whole,
-        Err(RunFault::Sink) => !is_whole,
-        Err(RunFault::Memory) => false,
-    };
-    let kept = out.written();
-    is_told && kept.len() == taken && TRANSCRIPT_OF_SUMS.as_bytes().starts_with(kept)
-}
-
-#[test]
-fn a_sink_that_fails_keeps_what_it_took(rt: HostRuntime) {
-    for taken in 0..=TRANSCRIPT_OF_SUMS.len() {
-        assert!(rt; keeps(&rt, rt.alloc(), taken), "after {taken} bytes");
-    }
-}
-
 /// A bench that has memory for some looks only.
 #[derive(Drop)]
 struct TiredBench {
@@ -94,17 +53,53 @@ impl Bench for TiredBench {
     }
 }
 
+/// Runs the two sums into a sink, before a bench that has memory for so many looks.
+fn run_sums(rt: &impl Abort, alloc: Global, out: &mut MemSink, looks: u32) -> Result<(), RunFault> {
+    let mut machine = Machine::new(alloc, Conv::SysV64).expect(rt, "a machine");
+    let mut bench = TiredBench { looks };
+    run_text(rt, alloc, &mut machine, &ADDS, SUMS, out, &mut bench)
+}
+
+/// A sink that takes a byte at a time, and fails when it has taken so many.
+fn sink_failing_after(rt: &impl Abort, alloc: Global, taken: usize) -> MemSink {
+    let mut fails = List::new(alloc);
+    fails
+        .push((taken as u64).saturating_add(1))
+        .expect(rt, "a list");
+    MemSink::new(alloc, 1, fails)
+}
+
+/// Whether a run into a sink that fails after so many bytes fails at the sink, unless these are
+/// all, and whether the sink keeps these bytes.
+fn keeps(rt: &impl Abort, alloc: Global, taken: usize) -> bool {
+    let mut out = sink_failing_after(rt, alloc, taken);
+    let is_told = match run_sums(rt, alloc, &mut out, u32::MAX) {
+        Ok(()) => taken == TRANSCRIPT_OF_SUMS.len(),
+        Err(RunFault::Sink) => taken != TRANSCRIPT_OF_SUMS.len(),
+        Err(RunFault::Memory) => false,
+    };
+    let kept = out.written();
+    is_told && kept.len() == taken && TRANSCRIPT_OF_SUMS.as_bytes().starts_with(kept)
+}
+
+#[test]
+fn a_sink_that_fails_keeps_what_it_took(rt: HostRuntime) {
+    for taken in 0..=TRANSCRIPT_OF_SUMS.len() {
+        check_holds(&rt, &taken, keeps(&rt, rt.alloc(), taken));
+    }
+}
+
 /// Whether a run before a bench that has memory for so many looks fails for want of memory, and
 /// whether it has written how the transcript begins.
 fn ends_early(rt: &impl Abort, alloc: Global, looks: u32) -> bool {
     let mut out = MemSink::new(alloc, 1, List::new(alloc));
-    let ran = run_sums(rt, alloc, &mut out, &mut TiredBench { looks });
-    matches!(ran, Err(RunFault::Memory)) && TRANSCRIPT_OF_SUMS.as_bytes().starts_with(out.written())
+    matches!(run_sums(rt, alloc, &mut out, looks), Err(RunFault::Memory))
+        && TRANSCRIPT_OF_SUMS.as_bytes().starts_with(out.written())
 }
 
 #[test]
 fn a_bench_that_fails_ends_the_run(rt: HostRuntime) {
     for looks in 0..4 {
-        assert!(rt; ends_early(&rt, rt.alloc(), looks), "after {looks} looks");
+        check_holds(&rt, &looks, ends_early(&rt, rt.alloc(), looks));
     }
 }

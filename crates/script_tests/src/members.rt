@@ -1,12 +1,11 @@
 //! The members that lines name.
 
-use call_scripts::{MemberRef, MemberWord};
+use crate::cases::{check, script_of};
+use call_scripts::{Act, Line, MemberRef};
 use descriptor_reader::Typelib;
 use script_members::Members;
 use std::alloc::Global;
 use std::process::Abort;
-use transcript_text::Refusal;
-use xp_base::{Bytes, List, Memory};
 
 /// nsISupports with its three methods, of which AddRef does not keep the rules of XPCOM and Release
 /// is hidden as well; and nsIL after it, in whose slot 3 stands `list`.
@@ -26,86 +25,74 @@ const MEMBERS: [u8; 202] = [
     0x40, 0x94, 0x00, 0x00, 0x01, 0x00, 0x06, 0x00, 0x00, 0x80,
 ];
 
-/// A member, by its interface, its kind and its name; and the number of its interface with its
-/// slot, or why it is refused.
-type Row = (
-    &'static str,
-    MemberWord,
-    &'static str,
-    Result<(u16, u16), Refusal>,
-);
+/// Lines that each name another member, but for the last two, whose members were asked for before.
+const LINES: &str = "\
+call o nsIL.list
+call o nsIL.QueryInterface
+call o nsISupports.QueryInterface
+call o nsIL.AddRef
+call o nsIL.Release
+call o nsIL.get:list
+call o nsIM.list
+call o nsIL.list
+call o nsIL.get:list
+";
 
-/// Each but the last two is another member, and these two were asked for before.
-const ROWS: [Row; 9] = [
-    ("nsIL", MemberWord::Plain, "list", Ok((2, 3))),
-    ("nsIL", MemberWord::Plain, "QueryInterface", Ok((2, 0))),
-    (
-        "nsISupports",
-        MemberWord::Plain,
-        "QueryInterface",
-        Ok((1, 0)),
-    ),
-    ("nsIL", MemberWord::Plain, "AddRef", Err(Refusal::NotXpcom)),
-    ("nsIL", MemberWord::Plain, "Release", Err(Refusal::Hidden)),
-    ("nsIL", MemberWord::Get, "list", Err(Refusal::NoMethod)),
-    ("nsIM", MemberWord::Plain, "list", Err(Refusal::NoInterface)),
-    ("nsIL", MemberWord::Plain, "list", Ok((2, 3))),
-    ("nsIL", MemberWord::Get, "list", Err(Refusal::NoMethod)),
-];
+/// Each line by its number, and of its member the number of the interface with the slot, or why it
+/// is refused.
+const FOUND: &str = "\
+1: 2 3
+2: 2 0
+3: 1 0
+4: NotXpcom
+5: Hidden
+6: NoMethod
+7: NoInterface
+8: 2 3
+9: NoMethod
+";
 
-/// The member of a row.
-fn member_of(alloc: Global, row: &Row) -> Result<MemberRef, Memory> {
-    let (iface, kind, name, _) = row;
-    Ok(MemberRef {
-        iface: Bytes::copy(alloc, iface.as_bytes())?,
-        kind: *kind,
-        name: Bytes::copy(alloc, name.as_bytes())?,
-    })
-}
-
-/// Adds the member of a row.
-fn add_member(rt: &impl Abort, alloc: Global, members: &mut List<MemberRef>, row: &Row) {
-    let member = member_of(alloc, row).expect(rt, row.2);
-    members.push(member).expect(rt, "members");
-}
-
-/// The members of rows.
-fn members_of(rt: &impl Abort, alloc: Global, rows: &[Row]) -> List<MemberRef> {
-    let mut members = List::new(alloc);
-    for row in rows {
-        add_member(rt, alloc, &mut members, row);
-    }
-    members
-}
-
-/// The number of a member's interface with its slot, or why the member is refused.
-fn found<'a>(
+/// Tells the number of a member's interface with its slot, or why the member is refused.
+fn tell_member<'a>(
     rt: &impl Abort,
     members: &mut Members<'a>,
     member: &'a MemberRef,
-) -> Result<(u16, u16), Refusal> {
+    told: &mut String,
+) {
     members.remember(member).expect(rt, "a member");
-    let found = members.member_named(member)?;
-    Ok((found.iface, found.method.slot()))
+    match members.member_named(member) {
+        Ok(found) => writeln!(told, "{} {}", found.iface, found.method.slot()),
+        Err(refusal) => writeln!(told, "{refusal:?}"),
+    }
+    .expect(rt, "a text");
 }
 
-/// The members are found as the rows say.
-fn check_members<'a>(
+/// Tells what is found of the member of each line.
+fn tell_members<'a>(
     rt: &impl Abort,
     members: &mut Members<'a>,
-    asked: &'a [MemberRef],
-    rows: &[Row],
+    lines: &'a [Line],
+    told: &mut String,
 ) {
-    for ((iface, _, name, wanted), member) in rows.iter().zip(asked) {
-        let found = found(rt, members, member);
-        assert!(rt; found == *wanted, "at {name} of {iface}");
+    for line in lines {
+        if let Act::Call { member, .. } = &line.act {
+            write!(told, "{}: ", line.number).expect(rt, "a text");
+            tell_member(rt, members, member, told);
+        }
     }
+}
+
+/// What is found of the members of lines is what is wanted.
+fn check_members(rt: &impl Abort, alloc: Global, lib: &Typelib<'_>, lines: &[Line]) {
+    let mut members = Members::new(alloc, lib);
+    let mut told = String::new(alloc);
+    tell_members(rt, &mut members, lines, &mut told);
+    check(rt, "the members of lines", told.as_bytes(), FOUND);
 }
 
 #[test]
 fn members_are_found_and_remembered(rt: HostRuntime) {
     let lib = Typelib::check(&MEMBERS).expect(&rt, "a typelib");
-    let asked = members_of(&rt, rt.alloc(), &ROWS);
-    let mut members = Members::new(rt.alloc(), &lib);
-    check_members(&rt, &mut members, asked.as_slice(), &ROWS);
+    let script = script_of(&rt, rt.alloc(), LINES);
+    check_members(&rt, rt.alloc(), &lib, script.lines.as_slice());
 }

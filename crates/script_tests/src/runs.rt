@@ -1,9 +1,11 @@
 //! Scripts that are run: what a bench sees of their calls.
 
-use crate::cases::script_of;
+ghost use Rattle.std.specs.Prelude.{◌≡◌};
+ghost use Rattle.object_memory.specs.Memory.{new_machine};
+
+use crate::cases::{check_holds, script_of};
 use crate::typelibs::{ADDS, BOOLEANS, SHORTS};
 use call_model::Conv;
-use call_scripts::Script;
 use descriptor_reader::Typelib;
 use machine_bench::{Bench, MemBench, Sight};
 use object_memory::Machine;
@@ -237,56 +239,30 @@ const RUNS: [Run; 5] = [
     },
 ];
 
-/// Runs a script over a typelib on a new machine, into a sink and before a bench.
-fn run_anew<O: Sink, B: Bench>(
+/// Runs a text over the bytes of a typelib on a new machine, into a sink and before a bench.
+pub(crate) fn run_text<O: Sink, B: Bench>(
     rt: &impl Abort,
     alloc: Global,
-    conv: Conv,
-    lib: &Typelib<'_>,
-    script: &Script,
-    out: &mut O,
-    bench: &mut B,
-) -> Result<Machine, RunFault> {
-    let mut machine = Machine::new(alloc, conv).expect(rt, "a machine");
-    match run_script(alloc, &mut machine, lib, script, out, bench) {
-        Ok(()) => Ok(machine),
-        Err(fault) => Err(fault),
-    }
-}
-
-/// The same of a text over the bytes of a typelib.
-pub(crate) fn ran<O: Sink, B: Bench>(
-    rt: &impl Abort,
-    alloc: Global,
+    machine: &mut Machine,
     typelib: &[u8],
-    conv: Conv,
     text: &str,
     out: &mut O,
     bench: &mut B,
-) -> Result<Machine, RunFault> {
+) -> Result<(), RunFault>
+    requires { machine.old ≡ new_machine machine.old.conv }
+{
     assert!(rt; typelib.len() <= MAX_TYPELIB);
     let lib = Typelib::check(typelib).expect(rt, "a typelib");
     let script = script_of(rt, alloc, text);
-    run_anew(rt, alloc, conv, &lib, &script, out, bench)
+    run_script(alloc, machine, &lib, &script, out, bench)
 }
 
-/// What a bench sees of a run, after which the object is where it is to be.
-fn seen_of(rt: &impl Abort, alloc: Global, run: &Run) -> MemBench {
+/// Makes a run on a new machine, before a bench.
+fn make_run(rt: &impl Abort, alloc: Global, machine: &mut Machine, bench: &mut MemBench, run: &Run)
+    requires { machine.old ≡ new_machine machine.old.conv }
+{
     let mut out = CalmSink::new(alloc);
-    let mut bench = MemBench::new(alloc);
-    let machine = ran(
-        rt,
-        alloc,
-        run.typelib,
-        run.conv,
-        run.script,
-        &mut out,
-        &mut bench,
-    )
-    .expect(rt, run.name);
-    let object = machine.object_at(run.object);
-    assert!(rt; object == Some(0), "object of {}", run.name);
-    bench
+    run_text(rt, alloc, machine, run.typelib, run.script, &mut out, bench).expect(rt, run.name);
 }
 
 /// Whether a sight is the one that is wanted.
@@ -309,21 +285,19 @@ fn are_seen(sights: &[Sight], run: &Run) -> bool {
     sights.len() == run.sights.len()
 }
 
-/// A bench sees what is wanted of a run.
+/// A bench sees what is wanted of a run, after which the object is where it is to be.
 fn check_run(rt: &impl Abort, alloc: Global, run: &Run) {
-    let bench = seen_of(rt, alloc, run);
-    let sights = bench.sights().as_slice();
-    assert!(rt; are_seen(sights, run), "at {}: {sights:?}", run.name);
-}
-
-/// A bench sees what is wanted of each run.
-fn check_runs(rt: &impl Abort, alloc: Global, rows: &[Run]) {
-    for run in rows {
-        check_run(rt, alloc, run);
-    }
+    let mut machine = Machine::new(alloc, run.conv).expect(rt, "a machine");
+    let mut bench = MemBench::new(alloc);
+    make_run(rt, alloc, &mut machine, &mut bench, run);
+    let is_placed = matches!(machine.object_at(run.object), Some(0));
+    let is_seen = are_seen(bench.sights().as_slice(), run);
+    check_holds(rt, &run.name, is_placed && is_seen);
 }
 
 #[test]
 fn a_bench_sees_all_that_calls_pass(rt: HostRuntime) {
-    check_runs(&rt, rt.alloc(), &RUNS);
+    for run in &RUNS {
+        check_run(&rt, rt.alloc(), run);
+    }
 }

@@ -1,9 +1,10 @@
 //! Each form of a line with the tree that it reads as and its echo, each near miss as a fault, and
 //! the number of each line.
 
-use crate::cases::{check, only_line, script_of, shown};
-use call_model::Conv;
-use call_scripts::{Front, Line, Script, ScriptError, convention, read_front, read_script};
+ghost use Rattle.std.specs.Prelude.{◌≤◌, length};
+
+use crate::cases::{check, check_shown, only_line, script_of};
+use call_scripts::{Line, convention, read_front, read_script};
 use std::alloc::Global;
 use std::process::Abort;
 use xp_base::MAX_TEXT;
@@ -99,58 +100,51 @@ const FORMS: [(&str, &str, &str); 16] = [
 fn check_form(rt: &impl Abort, alloc: Global, text: &str, tree: &str, echo: &str) {
     let script = script_of(rt, alloc, text);
     let line = only_line(rt, &script);
-    check(rt, text, shown(rt, alloc, &line.act).as_bytes(), tree);
+    check_shown(rt, alloc, text, &line.act, tree);
     check(rt, text, line.echo.as_slice(), echo);
-}
-
-/// Each form has its tree and its echo.
-fn check_forms(rt: &impl Abort, alloc: Global, rows: &[(&str, &str, &str)]) {
-    for (text, tree, echo) in rows {
-        check_form(rt, alloc, text, tree, echo);
-    }
 }
 
 #[test]
 fn forms_are_read(rt: HostRuntime) {
-    check_forms(&rt, rt.alloc(), &FORMS);
-}
-
-/// Whether lines have these numbers.
-fn have_numbers(lines: &[Line], numbers: &[u32]) -> bool {
-    for (line, number) in lines.iter().zip(numbers) {
-        if line.number != *number {
-            return false;
-        }
-    }
-    lines.len() == numbers.len()
-}
-
-/// What a text reads as: the numbers of its lines that do something, up to the first line with no
-/// reading, and the number of that line.
-type Reading = (&'static [u32], Option<u32>);
-
-/// Whether a front is that of a reading.
-fn is_front(front: &Front, reading: &Reading) -> bool {
-    let (numbers, fault) = reading;
-    front.fault == *fault && have_numbers(front.script.lines.as_slice(), numbers)
-}
-
-/// Whether this is the script of a reading or, where a line has none, the fault of that line.
-fn is_script(read: &Result<Script, ScriptError>, reading: &Reading) -> bool {
-    let (numbers, fault) = reading;
-    match read {
-        Ok(script) => fault.is_none() && have_numbers(script.lines.as_slice(), numbers),
-        Err(ScriptError::Fault { line }) => *fault == Some(*line),
-        Err(ScriptError::Memory) => false,
+    for (text, tree, echo) in &FORMS {
+        check_form(&rt, rt.alloc(), text, tree, echo);
     }
 }
 
-/// Whether a text reads like this, as a front and as a script.
-fn reads_as(rt: &impl Abort, alloc: Global, text: &str, reading: &Reading) -> bool {
+/// Tells the numbers of lines.
+fn tell_numbers(rt: &impl Abort, lines: &[Line], told: &mut String) {
+    for line in lines {
+        write!(told, "{} ", line.number).expect(rt, "a text");
+    }
+}
+
+/// Tells what a text reads as by its front: the numbers of its lines that do something, up to the
+/// first line with no reading, and the number of that line.
+fn tell_front(rt: &impl Abort, alloc: Global, text: &[u8], told: &mut String)
+    requires { length text.now ≤ MAX_TEXT }
+{
+    let front = read_front(alloc, text).expect(rt, "a front");
+    tell_numbers(rt, front.script.lines.as_slice(), told);
+    write!(told, "{:?}; ", front.fault).expect(rt, "a text");
+}
+
+/// Tells the numbers of the lines of a text's script or, where a line has no reading, that fault.
+fn tell_script(rt: &impl Abort, alloc: Global, text: &[u8], told: &mut String)
+    requires { length text.now ≤ MAX_TEXT }
+{
+    match &read_script(alloc, text) {
+        Ok(script) => tell_numbers(rt, script.lines.as_slice(), told),
+        Err(error) => write!(told, "{error:?}").expect(rt, "a text"),
+    }
+}
+
+/// A text reads like this, as a front and as a script.
+fn check_reading(rt: &impl Abort, alloc: Global, text: &str, wanted: &str) {
     assert!(rt; text.len() <= MAX_TEXT);
-    let front = read_front(alloc, text.as_bytes()).expect(rt, text);
-    let script = read_script(alloc, text.as_bytes());
-    is_front(&front, reading) && is_script(&script, reading)
+    let mut told = String::new(alloc);
+    tell_front(rt, alloc, text.as_bytes(), &mut told);
+    tell_script(rt, alloc, text.as_bytes(), &mut told);
+    check(rt, text, told.as_bytes(), wanted);
 }
 
 /// Lines that are close to one that is read.
@@ -205,8 +199,7 @@ Show b";
 #[test]
 fn near_misses_are_faults(rt: HostRuntime) {
     for text in NEAR_MISSES.lines() {
-        let is_fault = reads_as(&rt, rt.alloc(), text, &(&[], Some(1)));
-        assert!(rt; is_fault, "at {text}");
+        check_reading(&rt, rt.alloc(), text, "Some(1); Fault { line: 1 }");
     }
 }
 
@@ -226,50 +219,48 @@ const LONGER_NAME: &str = "show n\
     nnnnnnnnnnnnnnnnnnnnnnnnnnnnnnnnnnnnnnnnnnnnnnnnnnn\
     nnnnnnnnnnnnnnnnnnnnnnnnnnnnnnnnnnnnnnnnnnnnnnnnnnn";
 
-/// Texts, and what they read as.
-const READINGS: [(&str, Reading); 12] = [
-    ("# note\n\n \t\nshow b\r\n#\nshow c", (&[4, 6], None)),
-    ("", (&[], None)),
-    ("object o nsIA\n\nobject p nsIA", (&[1, 3], None)),
-    ("object o nsIA\njump\nobject p nsIA", (&[1], Some(2))),
-    ("show b\njump\njump", (&[1], Some(2))),
-    ("# note\n\njump\n", (&[], Some(3))),
-    ("show b\r", (&[], Some(1))),
-    ("show b\r\r\n", (&[], Some(1))),
-    ("\n# \x7f", (&[], Some(2))),
-    ("# \u{e9}", (&[], Some(1))),
-    (LONGEST_NAME, (&[1], None)),
-    (LONGER_NAME, (&[], Some(1))),
+/// Texts, and what they read as: by the front the numbers of the lines and that of the fault, and
+/// by the script the numbers of the lines or the fault.
+const READINGS: [(&str, &str); 12] = [
+    ("# note\n\n \t\nshow b\r\n#\nshow c", "4 6 None; 4 6 "),
+    ("", "None; "),
+    ("object o nsIA\n\nobject p nsIA", "1 3 None; 1 3 "),
+    (
+        "object o nsIA\njump\nobject p nsIA",
+        "1 Some(2); Fault { line: 2 }",
+    ),
+    ("show b\njump\njump", "1 Some(2); Fault { line: 2 }"),
+    ("# note\n\njump\n", "Some(3); Fault { line: 3 }"),
+    ("show b\r", "Some(1); Fault { line: 1 }"),
+    ("show b\r\r\n", "Some(1); Fault { line: 1 }"),
+    ("\n# \x7f", "Some(2); Fault { line: 2 }"),
+    ("# \u{e9}", "Some(1); Fault { line: 1 }"),
+    (LONGEST_NAME, "1 None; 1 "),
+    (LONGER_NAME, "Some(1); Fault { line: 1 }"),
 ];
-
-/// Each text reads as it is to.
-fn check_readings(rt: &impl Abort, alloc: Global, rows: &[(&str, Reading)]) {
-    for (text, reading) in rows {
-        let is_read = reads_as(rt, alloc, text, reading);
-        assert!(rt; is_read, "at {text:?}");
-    }
-}
 
 #[test]
 fn lines_are_counted_up_to_the_first_fault(rt: HostRuntime) {
-    check_readings(&rt, rt.alloc(), &READINGS);
+    for (text, wanted) in &READINGS {
+        check_reading(&rt, rt.alloc(), text, wanted);
+    }
 }
 
 /// Words, and the conventions that they name.
-const CONVENTIONS: [(&str, Option<Conv>); 8] = [
-    ("sysv64", Some(Conv::SysV64)),
-    ("i386", Some(Conv::I386)),
-    ("aapcs64", Some(Conv::Aapcs64)),
-    ("ms64", Some(Conv::Ms64)),
-    ("aapcs32", Some(Conv::Aapcs32)),
-    ("aapcs", None),
-    ("I386", None),
-    ("", None),
+const CONVENTIONS: [(&str, &str); 8] = [
+    ("sysv64", "Some(SysV64)"),
+    ("i386", "Some(I386)"),
+    ("aapcs64", "Some(Aapcs64)"),
+    ("ms64", "Some(Ms64)"),
+    ("aapcs32", "Some(Aapcs32)"),
+    ("aapcs", "None"),
+    ("I386", "None"),
+    ("", "None"),
 ];
 
 #[test]
 fn conventions_have_names(rt: HostRuntime) {
-    for (word, conv) in &CONVENTIONS {
-        assert!(rt; convention(word.as_bytes()) == *conv, "at {word}");
+    for (word, wanted) in &CONVENTIONS {
+        check_shown(&rt, rt.alloc(), word, &convention(word.as_bytes()), wanted);
     }
 }
