@@ -1,5 +1,6 @@
 //! Texts in memory, and streams of the system.
 
+use crate::cases::check;
 use std::alloc::Global;
 use std::fs::{self, File};
 use std::io::{self, Write};
@@ -14,19 +15,16 @@ const PIECES: [(&str, &str); 4] = [
     (".", "all of it."),
 ];
 
-/// Whether a sink takes a piece whole, after which this is written.
-fn takes_whole(sink: &mut CalmSink, piece: &str, written: &str) -> bool {
-    matches!(sink.put(piece.as_bytes()), Ok(taken) if taken == piece.len())
-        && sink.written() == written.as_bytes()
-}
-
 #[test]
 fn calm_sinks_take_every_piece_whole(rt: HostRuntime) {
     let mut sink = CalmSink::new(rt.alloc());
     for (piece, written) in &PIECES {
-        assert!(rt; takes_whole(&mut sink, piece, written), "after {piece}");
+        let taken = sink.put(piece.as_bytes()).expect(&rt, piece);
+        let is_written = sink.written() == written.as_bytes();
+        check(&rt, piece, taken == piece.len() && is_written);
     }
-    assert!(rt; put_all(&mut sink, b"!").is_ok() && sink.written() == b"all of it.!".as_slice());
+    put_all(&mut sink, b"!").expect(&rt, "a last piece");
+    assert!(rt; sink.written() == b"all of it.!".as_slice());
 }
 
 /// The put of a byte that fails, whether `three` is taken whole, what is written then, and what
@@ -45,20 +43,20 @@ fn scripted(rt: &impl Abort, alloc: Global, fail: u64) -> MemSink {
     MemSink::new(alloc, 1, fails)
 }
 
-/// Whether a sink takes all of a piece or not, as it is to, after which this is written.
-fn takes_all(sink: &mut MemSink, piece: &str, whole: bool, written: &str) -> bool {
-    put_all(sink, piece.as_bytes()).is_ok() == whole && sink.written() == written.as_bytes()
+/// Whether a sink takes `three` whole or not, as it is to, and then `en`, after which these are
+/// written.
+fn is_told(sink: &mut MemSink, whole: bool, written: &str, after: &str) -> bool {
+    put_all(sink, b"three").is_ok() == whole
+        && sink.written() == written.as_bytes()
+        && put_all(sink, b"en").is_ok()
+        && sink.written() == after.as_bytes()
 }
 
 #[test]
 fn scripted_sinks_fail_where_they_are_told_to(rt: HostRuntime) {
     for (fail, whole, written, after) in &SCRIPTED {
         let mut sink = scripted(&rt, rt.alloc(), *fail);
-        let is_told = takes_all(&mut sink, "three", *whole, written);
-        assert!(rt;
-            is_told && takes_all(&mut sink, "en", true, after),
-            "failing at {fail}"
-        );
+        check(&rt, after, is_told(&mut sink, *whole, written, after));
     }
 }
 
@@ -69,7 +67,7 @@ fn streams_of_the_system_are_written(rt: HostRuntime) {
     for (piece, whole) in &PIECES {
         put_all(&mut sink, piece.as_bytes()).expect(&rt, piece);
         let written = fs::read(&rt, PATH).expect(&rt, PATH);
-        assert!(rt; written.as_slice() == whole.as_bytes(), "after {piece}");
+        check(&rt, piece, written.as_slice() == whole.as_bytes());
     }
     drop(sink);
     fs::remove_file(&rt, PATH).expect(&rt, PATH);
@@ -92,26 +90,22 @@ impl Write for Stuck {
 /// A piece, and whether a stream that is full takes it.
 const TAKEN: [(&str, bool); 4] = [("", true), ("all", false), ("", true), ("of it", false)];
 
-/// Whether a sink takes each piece or not, as it is to.
-fn takes<S: Sink>(sink: &mut S) -> bool {
+/// A sink takes each piece or not, as it is to, whole or in one put.
+fn check_taken<S: Sink>(rt: &impl Abort, sink: &mut S) {
     for (piece, taken) in &TAKEN {
-        if put_all(sink, piece.as_bytes()).is_ok() != *taken {
-            return false;
-        }
+        let is_put = sink.put(piece.as_bytes()).is_ok();
+        let is_whole = put_all(sink, piece.as_bytes()).is_ok();
+        check(rt, piece, is_put == *taken && is_whole == *taken);
     }
-    true
 }
 
 #[test]
 fn a_full_device_fails(rt: HostRuntime) {
-    let full = File::options().write(true).open(&rt, "/dev/full");
-    let mut sink = StreamSink::new(full.expect(&rt, "a full device"));
-    assert!(rt; takes(&mut sink));
+    let full = File::create(&rt, "/dev/full").expect(&rt, "a full device");
+    check_taken(&rt, &mut StreamSink::new(full));
 }
 
 #[test]
 fn a_stream_that_takes_nothing_fails(rt: HostRuntime) {
-    let mut sink = StreamSink::new(Stuck);
-    assert!(rt; takes(&mut sink));
-    assert!(rt; sink.put(b"").is_ok() && sink.put(b"all").is_err());
+    check_taken(&rt, &mut StreamSink::new(Stuck));
 }
