@@ -1,11 +1,12 @@
 //! Listings, worked out by hand from what typelibs say.
 
+use crate::cases::check;
 use descriptor_reader::Typelib;
 use dump_text::dump;
 use printed_names::escaped;
 use std::alloc::Global;
 use std::process::Abort;
-use xp_base::{CalmSink, List, MAX_TYPELIB, MemSink, RunFault};
+use xp_base::{CalmSink, List, MAX_TYPELIB, MemSink, RunFault, Sink};
 
 /// One interface with a method of one number.
 const ONE_METHOD: [u8; 88] = [
@@ -211,79 +212,45 @@ slot 0 method \\80\\ff -
 const \\09[] int16 0
 ";
 
-/// A typelib and its listing.
-struct Row {
-    typelib: &'static [u8],
-    listing: &'static str,
-}
+/// A typelib and its listing, behind what it is.
+type Row = (&'static str, &'static [u8], &'static str);
 
 const ROWS: [Row; 9] = [
-    Row {
-        typelib: &ONE_METHOD,
-        listing: ONE_METHOD_LISTING,
-    },
-    Row {
-        typelib: &OTHER_LAYOUT,
-        listing: ONE_METHOD_LISTING,
-    },
-    Row {
-        typelib: &SHARED_NAME,
-        listing: SHARED_NAME_LISTING,
-    },
-    Row {
-        typelib: &ATTRIBUTES,
-        listing: ATTRIBUTES_LISTING,
-    },
-    Row {
-        typelib: &ARRAY,
-        listing: ARRAY_LISTING,
-    },
-    Row {
-        typelib: &UNRESOLVED,
-        listing: UNRESOLVED_LISTING,
-    },
-    Row {
-        typelib: &CONSTANTS,
-        listing: CONSTANTS_LISTING,
-    },
-    Row {
-        typelib: &TYPES,
-        listing: TYPES_LISTING,
-    },
-    Row {
-        typelib: &NAMES,
-        listing: NAMES_LISTING,
-    },
+    ("one method", &ONE_METHOD, ONE_METHOD_LISTING),
+    ("another layout", &OTHER_LAYOUT, ONE_METHOD_LISTING),
+    ("a shared name", &SHARED_NAME, SHARED_NAME_LISTING),
+    ("attributes", &ATTRIBUTES, ATTRIBUTES_LISTING),
+    ("an array", &ARRAY, ARRAY_LISTING),
+    ("an unresolved interface", &UNRESOLVED, UNRESOLVED_LISTING),
+    ("constants", &CONSTANTS, CONSTANTS_LISTING),
+    ("types", &TYPES, TYPES_LISTING),
+    ("names", &NAMES, NAMES_LISTING),
 ];
 
-/// The sink with the listing of these bytes.
-fn listing_of(rt: &impl Abort, alloc: Global, bytes: &[u8]) -> CalmSink {
+/// Lists the typelib of these bytes.
+fn list<S: Sink>(rt: &impl Abort, alloc: Global, bytes: &[u8], out: &mut S) {
     assert!(rt; bytes.len() <= MAX_TYPELIB);
     let lib = Typelib::check(bytes).expect(rt, "a typelib");
-    let mut out = CalmSink::new(alloc);
-    dump(alloc, &lib, &mut out).expect(rt, "a listing");
-    out
+    dump(alloc, &lib, out).expect(rt, "a listing");
 }
 
-/// Each typelib has its listing.
-fn check_rows(rt: &impl Abort, alloc: Global, rows: &[Row]) {
-    for row in rows {
-        let out = listing_of(rt, alloc, row.typelib);
-        assert!(rt;
-            out.written() == row.listing.as_bytes(),
-            "of {}",
-            row.listing
-        );
-    }
+/// A typelib has its listing.
+fn check_row(rt: &impl Abort, alloc: Global, row: &Row) {
+    let (case, typelib, listing) = row;
+    let mut out = CalmSink::new(alloc);
+    list(rt, alloc, typelib, &mut out);
+    check(rt, case, out.written() == listing.as_bytes());
 }
 
 #[test]
 fn typelibs_are_listed(rt: HostRuntime) {
-    check_rows(&rt, rt.alloc(), &ROWS);
+    for row in &ROWS {
+        check_row(&rt, rt.alloc(), row);
+    }
 }
 
-/// The put that fails, of a sink that takes one byte at each.
-const FAILURES: [u64; 4] = [1, 2, 15, 100];
+/// The put that fails, by its number and a name, of a sink that takes one byte at each.
+const FAILURES: [(&str, u64); 4] = [("put 1", 1), ("put 2", 2), ("put 15", 15), ("put 100", 100)];
 
 /// A sink that takes one byte at each put, and fails at this one.
 fn sink_failing_at(rt: &impl Abort, alloc: Global, failure: u64) -> MemSink {
@@ -292,12 +259,12 @@ fn sink_failing_at(rt: &impl Abort, alloc: Global, failure: u64) -> MemSink {
     MemSink::new(alloc, 1, failures)
 }
 
-/// Whether the listing ends where the put of this number fails, and the sink is blamed for it.
-fn ends_at(rt: &impl Abort, alloc: Global, lib: &Typelib<'_>, failure: u64) -> bool {
-    let mut out = sink_failing_at(rt, alloc, failure);
-    let answer = dump(alloc, lib, &mut out);
+/// Whether the listing of the constants ends where the put of this number fails, and the sink is
+/// blamed for it.
+fn ends_at(alloc: Global, lib: &Typelib<'_>, out: &mut MemSink, failure: u64) -> bool {
+    let is_blamed = matches!(dump(alloc, lib, out), Err(RunFault::Sink));
     let written = out.written();
-    matches!(answer, Err(RunFault::Sink))
+    is_blamed
         && written.len() as u64 + 1 == failure
         && CONSTANTS_LISTING.as_bytes().starts_with(written)
 }
@@ -305,35 +272,31 @@ fn ends_at(rt: &impl Abort, alloc: Global, lib: &Typelib<'_>, failure: u64) -> b
 #[test]
 fn a_failing_sink_has_a_prefix(rt: HostRuntime) {
     let lib = Typelib::check(&CONSTANTS).expect(&rt, "a typelib");
-    for failure in &FAILURES {
-        assert!(rt;
-            ends_at(&rt, rt.alloc(), &lib, *failure),
-            "at put {failure}"
-        );
+    for (case, failure) in &FAILURES {
+        let mut out = sink_failing_at(&rt, rt.alloc(), *failure);
+        check(&rt, case, ends_at(rt.alloc(), &lib, &mut out, *failure));
     }
 }
 
 #[test]
 fn a_narrow_sink_has_the_whole_listing(rt: HostRuntime) {
-    let alloc = rt.alloc();
-    let lib = Typelib::check(&CONSTANTS).expect(&rt, "a typelib");
-    let mut out = MemSink::new(alloc, 1, List::new(alloc));
-    dump(alloc, &lib, &mut out).expect(&rt, "a listing");
+    let mut out = MemSink::new(rt.alloc(), 1, List::new(rt.alloc()));
+    list(&rt, rt.alloc(), &CONSTANTS, &mut out);
     assert!(rt; out.written() == CONSTANTS_LISTING.as_bytes());
 }
 
-/// Names, and the words that stand for them.
-const NAMES_AND_WORDS: [(&[u8], &[u8]); 4] = [
-    (b"nsISupports", b"nsISupports"),
-    (b"", b""),
-    (b" ~!\x7f\\", b"\\20~!\\7f\\5c"),
-    (&[0, 9, 0x80, 0xff], b"\\00\\09\\80\\ff"),
+/// Names, and the words that stand for them, behind what they are.
+const NAMES_AND_WORDS: [(&str, &[u8], &[u8]); 4] = [
+    ("a plain name", b"nsISupports", b"nsISupports"),
+    ("no name", b"", b""),
+    ("other signs", b" ~!\x7f\\", b"\\20~!\\7f\\5c"),
+    ("other bytes", &[0, 9, 0x80, 0xff], b"\\00\\09\\80\\ff"),
 ];
 
 #[test]
 fn names_are_escaped(rt: HostRuntime) {
-    for (name, word) in &NAMES_AND_WORDS {
-        let escaped = escaped(rt.alloc(), name).expect(&rt, "a word");
-        assert!(rt; escaped.as_slice() == *word, "of {name:?}");
+    for (case, name, word) in &NAMES_AND_WORDS {
+        let escaped = escaped(rt.alloc(), name).expect(&rt, case);
+        check(&rt, case, escaped.as_slice() == *word);
     }
 }

@@ -10,7 +10,7 @@ use std::alloc::Global;
 use xp_base::{Bytes, ConstKind, List, Memory};
 
 /// A library that is written.
-#[derive(Clone, Copy, Debug)]
+#[derive(Clone, Copy)]
 pub(crate) enum Example {
     /// One interface with a method of one number.
     OneMethod,

@@ -3,10 +3,10 @@
 
 ghost use Rattle.std.specs.Prelude.{◌≡◌, ◌≤◌, length};
 
+use crate::cases::check;
 use descriptor_reader::Typelib;
-use std::alloc::Global;
 use std::process::Abort;
-use xp_base::{Bytes, MAX_TYPELIB, Memory};
+use xp_base::{Bytes, MAX_TYPELIB};
 
 /// One interface, nsIA, with one method, f, which takes one number of 32 bits.
 const ONE_METHOD: [u8; 88] = [
@@ -77,35 +77,35 @@ fn one_method() -> [u8; 88]
     ONE_METHOD
 }
 
-/// The code and the place of the first fault; None where there is none.
-fn fault_of(bytes: &[u8]) -> Option<(u8, u64)>
+/// Whether the first fault has this code and this place; both are 0 where there is no fault.
+fn has_fault(bytes: &[u8], code: u8, at: u64) -> bool
     requires { length bytes.now ≤ MAX_TYPELIB }
 {
     match Typelib::check(bytes) {
-        Ok(_) => None,
-        Err(fault) => Some((fault.code, fault.at)),
+        Ok(_) => code == 0 && at == 0,
+        Err(fault) => code != 0 && fault.code == code && fault.at == at,
     }
 }
 
-/// How many bytes of the file of one method are there, the byte that is changed and what it then
-/// is, and the code and the place of the first fault.
-type Change = (usize, usize, u8, Option<(u8, u64)>);
+/// What is changed: how many bytes of the file of one method are there, the byte that is changed
+/// and what it then is; and the code and the place of the first fault, or twice 0.
+type Change = (&'static str, usize, usize, u8, u8, u64);
 
 const CHANGES: [Change; 14] = [
-    (31, 0, 88, Some((1, 31))),
-    (88, 0, 88, None),
-    (88, 0, 89, Some((2, 0))),
-    (88, 17, 1, Some((3, 16))),
-    (88, 23, 89, Some((4, 20))),
-    (88, 32, 130, Some((5, 32))),
-    (88, 27, 62, Some((6, 24))),
-    (88, 31, 89, Some((7, 28))),
-    (88, 55, 0, Some((8, 52))),
-    (88, 72, 2, Some((9, 71))),
-    (88, 72, 1, Some((10, 36))),
-    (88, 82, 27, Some((11, 82))),
-    (88, 82, 19, Some((12, 83))),
-    (88, 80, 2, Some((15, 87))),
+    ("the header's end", 31, 0, 88, 1, 31),
+    ("nothing", 88, 0, 88, 0, 0),
+    ("the first byte", 88, 0, 89, 2, 0),
+    ("byte 17", 88, 17, 1, 3, 16),
+    ("byte 23", 88, 23, 89, 4, 20),
+    ("byte 32", 88, 32, 130, 5, 32),
+    ("byte 27", 88, 27, 62, 6, 24),
+    ("byte 31", 88, 31, 89, 7, 28),
+    ("byte 55", 88, 55, 0, 8, 52),
+    ("byte 72, to 2", 88, 72, 2, 9, 71),
+    ("byte 72, to 1", 88, 72, 1, 10, 36),
+    ("byte 82, to 27", 88, 82, 27, 11, 82),
+    ("byte 82, to 19", 88, 82, 19, 12, 83),
+    ("byte 80", 88, 80, 2, 15, 87),
 ];
 
 /// The file of one method with this byte at this place.
@@ -118,80 +118,77 @@ fn changed(rt: &impl Abort, place: usize, byte: u8) -> [u8; 88]
     file
 }
 
-/// The first fault of so many bytes of the file of one method, in which a byte is changed.
-fn fault_of_changed(rt: &impl Abort, len: usize, place: usize, byte: u8) -> Option<(u8, u64)> {
-    let file = changed(rt, place, byte);
-    assert!(rt; len <= 88);
-    fault_of(&file[..len])
-}
-
-/// Each changed file has its fault.
-fn check_changes(rt: &impl Abort, rows: &[Change]) {
-    for (len, place, byte, wanted) in rows {
-        let found = fault_of_changed(rt, *len, *place, *byte);
-        assert!(rt; found == *wanted, "byte {place} of {len} is {byte}");
-    }
+/// A changed file has its fault.
+fn check_change(rt: &impl Abort, change: &Change) {
+    let (case, len, place, byte, code, at) = change;
+    let file = changed(rt, *place, *byte);
+    assert!(rt; *len <= 88);
+    check(rt, case, has_fault(&file[..*len], *code, *at));
 }
 
 #[test]
 fn a_short_or_changed_file_has_its_fault(rt: HostRuntime) {
-    check_changes(&rt, &CHANGES);
+    for change in &CHANGES {
+        check_change(&rt, change);
+    }
 }
 
 /// Adds a piece so many times.
-fn add(file: &mut Bytes, piece: &[u8], times: u32) -> Result<(), Memory> {
+fn add(rt: &impl Abort, file: &mut Bytes, piece: &[u8], times: u32) {
     for _ in 0..times {
-        file.append(piece)?;
+        file.append(piece).expect(rt, "a piece");
     }
-    Ok(())
 }
 
-/// A header, how many entries follow it, the head of the pool, how many methods follow that, and
-/// the code and the place of the first fault.
-type Large = (&'static [u8], u32, &'static [u8], u32, Option<(u8, u64)>);
+/// What is large, a header, how many entries follow it, the head of the pool, how many methods
+/// follow that, and the code and the place of the first fault, or twice 0.
+type Large = (
+    &'static str,
+    &'static [u8],
+    u32,
+    &'static [u8],
+    u32,
+    u8,
+    u64,
+);
 
 /// Adds a header, so many entries, the head of the pool and so many methods.
-fn assemble(file: &mut Bytes, large: &Large) -> Result<(), Memory> {
-    let (header, entries, pool, methods, _) = large;
-    file.append(header)?;
-    add(file, &ENTRY, *entries)?;
-    file.append(pool)?;
-    add(file, &METHOD, *methods)?;
-    file.append(&END)
+fn assemble(rt: &impl Abort, file: &mut Bytes, large: &Large) {
+    let (_, header, entries, pool, methods, ..) = large;
+    add(rt, file, header, 1);
+    add(rt, file, &ENTRY, *entries);
+    add(rt, file, pool, 1);
+    add(rt, file, &METHOD, *methods);
+    add(rt, file, &END, 1);
 }
 
 const LARGE: [Large; 4] = [
-    (&ENTRIES_OF_60, 16_384, &POOL_OF_60, 60, None),
+    ("60 methods", &ENTRIES_OF_60, 16_384, &POOL_OF_60, 60, 0, 0),
     (
+        "100 methods",
         &ENTRIES_OF_100,
         16_384,
         &POOL_OF_100,
         100,
-        Some((13, 459_586)),
+        13,
+        459_586,
     ),
-    (&SLOTS_250, 1, &POOL_OF_250, 250, None),
-    (&SLOTS_251, 1, &POOL_OF_251, 251, Some((14, 36))),
+    ("250 slots", &SLOTS_250, 1, &POOL_OF_250, 250, 0, 0),
+    ("251 slots", &SLOTS_251, 1, &POOL_OF_251, 251, 14, 36),
 ];
 
-/// The first fault of a large file.
-fn fault_of_large(rt: &impl Abort, alloc: Global, large: &Large) -> Option<(u8, u64)> {
-    let mut file = Bytes::new(alloc);
-    assemble(&mut file, large).expect(rt, "a file");
-    let bytes = file.as_slice();
-    assert!(rt; bytes.len() <= MAX_TYPELIB);
-    fault_of(bytes)
-}
-
-/// Each large file has its fault.
-fn check_large(rt: &impl Abort, alloc: Global, rows: &[Large]) {
-    for large in rows {
-        let (_, entries, _, methods, wanted) = large;
-        let found = fault_of_large(rt, alloc, large);
-        assert!(rt; found == *wanted, "{entries} entries, {methods} methods");
-    }
+/// A large file has its fault.
+fn check_large(rt: &impl Abort, file: &[u8], large: &Large) {
+    let (case, _, _, _, _, code, at) = large;
+    assert!(rt; file.len() <= MAX_TYPELIB);
+    check(rt, case, has_fault(file, *code, *at));
 }
 
 #[test]
 fn a_large_file_has_its_fault(rt: HostRuntime) {
-    check_large(&rt, rt.alloc(), &LARGE);
+    for large in &LARGE {
+        let mut file = Bytes::new(rt.alloc());
+        assemble(&rt, &mut file, large);
+        check_large(&rt, file.as_slice(), large);
+    }
 }

@@ -1,5 +1,6 @@
 //! The table that is read off a library.
 
+use crate::cases::check;
 use call_model::{CType, MemberKind, Note, Pass, ProtoArg, Status, TableIface, TableSlot};
 use lib_model::{
     Body, Iface, IfaceFlags, Library, Method, MethodFlags, Param, ParamFlags, XType, table_of, tags,
@@ -9,9 +10,8 @@ use std::process::Abort;
 use xp_base::{Bytes, List};
 
 /// A method, and the status and prototype that it has in the table.
-#[derive(Clone, Copy)]
 struct Row {
-    name: &'static [u8],
+    name: &'static str,
     flags: u8,
     params: &'static [Param],
     status: Status,
@@ -19,9 +19,8 @@ struct Row {
 }
 
 /// An interface with its methods.
-#[derive(Clone, Copy)]
 struct Rows {
-    name: &'static [u8],
+    name: &'static str,
     iid: [u8; 16],
     parent: u16,
     methods: &'static [Row],
@@ -58,12 +57,12 @@ const IN_I32: ProtoArg = ProtoArg {
 /// nsISupports, and an interface that adds two numbers, in the order of their identifiers.
 const INTERFACES: [Rows; 2] = [
     Rows {
-        name: b"nsISupports",
+        name: "nsISupports",
         iid: [0, 0, 0, 0, 0, 0, 0, 0, 0xc0, 0, 0, 0, 0, 0, 0, 0x46],
         parent: 0,
         methods: &[
             Row {
-                name: b"QueryInterface",
+                name: "QueryInterface",
                 flags: 0,
                 params: &[IN_IDENTIFIER, OUT_INTERFACE],
                 status: Status::Callable,
@@ -83,14 +82,14 @@ const INTERFACES: [Rows; 2] = [
                 ],
             },
             Row {
-                name: b"AddRef",
+                name: "AddRef",
                 flags: 0x28,
                 params: &[],
                 status: Status::Hidden,
                 proto: &[],
             },
             Row {
-                name: b"Release",
+                name: "Release",
                 flags: 0x28,
                 params: &[],
                 status: Status::Hidden,
@@ -99,11 +98,11 @@ const INTERFACES: [Rows; 2] = [
         ],
     },
     Rows {
-        name: b"nsIT",
+        name: "nsIT",
         iid: [1, 2, 3, 4, 5, 6, 7, 8, 9, 10, 11, 12, 13, 14, 15, 16],
         parent: 1,
         methods: &[Row {
-            name: b"add",
+            name: "add",
             flags: 0,
             params: &[IN_LONG, IN_LONG, RETURNED_LONG],
             status: Status::Callable,
@@ -121,8 +120,8 @@ const INTERFACES: [Rows; 2] = [
     },
 ];
 
-fn bytes_of(rt: &impl Abort, alloc: Global, bytes: &[u8]) -> Bytes {
-    Bytes::copy(alloc, bytes).expect(rt, "bytes")
+fn name_of(rt: &impl Abort, alloc: Global, name: &str) -> Bytes {
+    Bytes::copy(alloc, name.as_bytes()).expect(rt, name)
 }
 
 fn params_of(rt: &impl Abort, alloc: Global, row: &Row) -> List<Param> {
@@ -135,7 +134,7 @@ fn params_of(rt: &impl Abort, alloc: Global, row: &Row) -> List<Param> {
 
 fn method_of(rt: &impl Abort, alloc: Global, row: &Row) -> Method {
     Method {
-        name: bytes_of(rt, alloc, row.name),
+        name: name_of(rt, alloc, row.name),
         flags: MethodFlags { bits: row.flags },
         params: params_of(rt, alloc, row),
     }
@@ -153,7 +152,7 @@ fn methods_of(rt: &impl Abort, alloc: Global, rows: &[Row]) -> List<Method> {
 
 fn iface_of(rt: &impl Abort, alloc: Global, rows: &Rows) -> Iface {
     Iface {
-        name: bytes_of(rt, alloc, rows.name),
+        name: name_of(rt, alloc, rows.name),
         namespace: None,
         iid: rows.iid,
         body: Some(Body {
@@ -177,7 +176,7 @@ fn library_of(rt: &impl Abort, alloc: Global, interfaces: &[Rows]) -> Library {
 
 /// Whether a slot is that of its row.
 fn has_slot(slot: &TableSlot, row: &Row) -> bool {
-    slot.name.as_slice() == row.name
+    slot.name.as_slice() == row.name.as_bytes()
         && slot.kind == MemberKind::Plain
         && slot.status == row.status
         && slot.proto.as_slice() == row.proto
@@ -191,7 +190,7 @@ fn has_rows(iface: &TableIface, rows: &Rows) -> bool {
         }
     }
     iface.resolved
-        && iface.name.as_slice() == rows.name
+        && iface.name.as_slice() == rows.name.as_bytes()
         && iface.iid == rows.iid
         && iface.parent == rows.parent
         && iface.slots.len() == rows.methods.len()
@@ -201,7 +200,7 @@ fn has_rows(iface: &TableIface, rows: &Rows) -> bool {
 fn check_interfaces(rt: &impl Abort, ifaces: &[TableIface], interfaces: &[Rows]) {
     assert!(rt; ifaces.len() == interfaces.len());
     for (iface, rows) in ifaces.iter().zip(interfaces) {
-        assert!(rt; has_rows(iface, rows), "of {:?}", rows.name);
+        check(rt, rows.name, has_rows(iface, rows));
     }
 }
 

@@ -1,8 +1,8 @@
 //! What the views of a typelib hand out, worked out by hand.
 
+use crate::cases::check;
 use call_model::{CType, MemberKind, Note, Pass, ProtoArg, Status};
 use descriptor_reader::{ConstView, IfaceView, MethodView, Typelib};
-use std::alloc::{AllocError, Global};
 use std::process::Abort;
 use xp_base::ConstKind;
 
@@ -36,47 +36,53 @@ fn iid(last: u8) -> [u8; 16] {
     [0, 0, 0, 0, 0, 0, 0, 0, 0, 0, 0, 0, 0, 0, 0, last]
 }
 
-/// What was found in the family is what was wanted.
-fn check(rt: &impl Abort, of: &str, found: &str, wanted: &str) {
-    assert!(rt; found == wanted, "of {of}: {found}");
-}
-
-/// A name, the last byte of an identifier, and the numbers of the interfaces that have them.
-const NUMBERS: [(&str, u8, &str); 4] = [
-    ("nsIA", 1, "Some(1) Some(1)"),
-    ("nsIB", 2, "Some(2) Some(2)"),
-    ("nsIC", 3, "None None"),
-    ("nsI", 0, "None None"),
+/// A name, the last byte of an identifier, and the number of the interface that has them.
+const NUMBERS: [(&str, u8, Option<u16>); 4] = [
+    ("nsIA", 1, Some(1)),
+    ("nsIB", 2, Some(2)),
+    ("nsIC", 3, None),
+    ("nsI", 0, None),
 ];
 
-/// The numbers of the interfaces of this name and of this identifier.
-fn numbers(alloc: Global, lib: &Typelib<'_>, name: &str, last: u8) -> Result<String, AllocError> {
-    let named = lib.find(name.as_bytes());
-    let identified = lib.find_iid(&iid(last));
-    format!(in alloc; "{named:?} {identified:?}")
+/// Each interface is found by its name and by its identifier.
+fn check_numbers(rt: &impl Abort, lib: &Typelib<'_>) {
+    for (name, last, number) in &NUMBERS {
+        let named = lib.find(name.as_bytes());
+        let identified = lib.find_iid(&iid(*last));
+        check(rt, name, named == *number && identified == *number);
+    }
 }
 
 #[test]
 fn interfaces_are_found(rt: HostRuntime) {
     let lib = family(&rt);
     assert!(rt; lib.iface_count() == 3);
-    for (name, last, wanted) in &NUMBERS {
-        let found = numbers(rt.alloc(), &lib, name, *last).expect(&rt, name);
-        check(&rt, name, found.as_str(), wanted);
-    }
+    check_numbers(&rt, &lib);
 }
 
-/// The number of an interface, a kind and a name, and the slot of that member.
-const MEMBERS: [(u16, MemberKind, &str, Option<u16>); 9] = [
-    (1, MemberKind::Get, "f", Some(0)),
-    (1, MemberKind::Plain, "f", Some(1)),
-    (1, MemberKind::Plain, "g", None),
-    (2, MemberKind::Get, "f", Some(0)),
-    (2, MemberKind::Plain, "f", Some(1)),
-    (2, MemberKind::Plain, "g", Some(2)),
-    (2, MemberKind::Set, "f", None),
-    (3, MemberKind::Plain, "f", None),
-    (4, MemberKind::Plain, "f", None),
+/// What is looked for: the number of an interface, a kind and a name; and the slot of that member.
+const MEMBERS: [(&str, u16, MemberKind, &str, Option<u16>); 9] = [
+    ("an attribute", 1, MemberKind::Get, "f", Some(0)),
+    ("a method", 1, MemberKind::Plain, "f", Some(1)),
+    ("a method of a child", 1, MemberKind::Plain, "g", None),
+    ("an attribute of a parent", 2, MemberKind::Get, "f", Some(0)),
+    ("a method of a parent", 2, MemberKind::Plain, "f", Some(1)),
+    (
+        "a method beside a parent",
+        2,
+        MemberKind::Plain,
+        "g",
+        Some(2),
+    ),
+    (
+        "an attribute that is not set",
+        2,
+        MemberKind::Set,
+        "f",
+        None,
+    ),
+    ("one that is not resolved", 3, MemberKind::Plain, "f", None),
+    ("no interface", 4, MemberKind::Plain, "f", None),
 ];
 
 /// The slot of the member of this kind and name, of this interface or an ancestor of it.
@@ -88,46 +94,39 @@ fn slot_of(lib: &Typelib<'_>, number: u16, kind: MemberKind, name: &str) -> Opti
 #[test]
 fn members_are_found_in_ancestors(rt: HostRuntime) {
     let lib = family(&rt);
-    for (number, kind, name, wanted) in &MEMBERS {
-        let found = slot_of(&lib, *number, *kind, name);
-        assert!(rt; found == *wanted, "{number} {kind:?} {name}");
+    for (case, number, kind, name, slot) in &MEMBERS {
+        check(&rt, case, slot_of(&lib, *number, *kind, name) == *slot);
     }
 }
 
-/// A name, a kind, and how many parameters and positions.
-type Signature = (&'static [u8], MemberKind, u32, u32);
+/// A slot, and the name, the kind, and how many parameters and positions its method has.
+type Signature = (&'static str, u16, &'static str, MemberKind, u32, u32);
 
 /// The methods in the slots of nsIB, in order.
 const SLOTS: [Signature; 3] = [
-    (b"f", MemberKind::Get, 1, 1),
-    (b"f", MemberKind::Plain, 1, 1),
-    (b"g", MemberKind::Plain, 2, 4),
+    ("slot 0", 0, "f", MemberKind::Get, 1, 1),
+    ("slot 1", 1, "f", MemberKind::Plain, 1, 1),
+    ("slot 2", 2, "g", MemberKind::Plain, 2, 4),
 ];
 
 /// Whether this is the method of the slot.
-fn is_method(method: &MethodView<'_>, slot: u16, signature: &Signature) -> bool {
-    let (name, kind, params, positions) = signature;
-    method.slot() == slot
-        && method.name() == *name
+fn is_method(method: &MethodView<'_>, signature: &Signature) -> bool {
+    let (_, slot, name, kind, params, positions) = signature;
+    method.slot() == *slot
+        && method.name() == name.as_bytes()
         && method.kind() == *kind
         && method.status() == Status::Callable
         && method.param_count() == *params
         && method.positions() == *positions
 }
 
-/// Whether the slot of nsIB has the method.
-fn has_method(lib: &Typelib<'_>, slot: u16, signature: &Signature) -> bool {
-    match lib.method_at(2, slot) {
-        Some(method) => is_method(&method, slot, signature),
-        None => false,
-    }
-}
-
 #[test]
 fn slots_hold_the_methods_of_ancestors(rt: HostRuntime) {
     let lib = family(&rt);
-    for (slot, signature) in SLOTS.iter().enumerate() {
-        assert!(rt; has_method(&lib, slot as u16, signature), "slot {slot}");
+    for signature in &SLOTS {
+        let (case, slot, ..) = signature;
+        let method = lib.method_at(2, *slot).expect(&rt, case);
+        check(&rt, case, is_method(&method, signature));
     }
     assert!(rt; lib.method_at(2, 3).is_none() && lib.method_at(3, 0).is_none());
 }
@@ -144,61 +143,49 @@ fn has_own_slots(view: &IfaceView<'_>, first: u16, end: u16) -> bool {
     next == end && view.first_slot() == first && view.end_slot() == end
 }
 
-/// The same of the interface of this number.
-fn owns_slots(lib: &Typelib<'_>, number: u16, first: u16, end: u16) -> bool {
-    match lib.iface(number) {
-        Some(view) => has_own_slots(&view, first, end),
-        None => false,
-    }
-}
-
-/// The number of an interface, its first own slot, and one past its last.
-const OWN_SLOTS: [(u16, u16, u16); 3] = [(1, 0, 2), (2, 2, 3), (3, 0, 0)];
+/// An interface: its name, its number, its first own slot, and one past its last.
+const OWN_SLOTS: [(&str, u16, u16, u16); 3] = [
+    ("nsIA", 1, 0, 2),
+    ("nsIB", 2, 2, 3),
+    ("nsIC", 3, 0, 0),
+];
 
 #[test]
 fn own_methods_are_listed_in_their_slots(rt: HostRuntime) {
     let lib = family(&rt);
-    for (number, first, end) in &OWN_SLOTS {
-        assert!(rt; owns_slots(&lib, *number, *first, *end), "{number}");
+    for (name, number, first, end) in &OWN_SLOTS {
+        let view = lib.iface(*number).expect(&rt, name);
+        check(&rt, name, has_own_slots(&view, *first, *end));
     }
 }
 
-/// The name, the kind and the value of each constant of nsIA.
-const CONSTANTS: [(&[u8], ConstKind, i64); 2] = [
-    (b"a", ConstKind::I16, -1),
-    (b"b", ConstKind::U32, 4_294_967_295),
-];
-
-/// Whether a constant is that of its row.
-fn is_constant(constant: &ConstView<'_>, row: &(&[u8], ConstKind, i64)) -> bool {
-    let (name, kind, value) = row;
-    constant.name() == *name && constant.kind() == *kind && constant.value() == *value
-}
-
-/// Whether the constants of an interface are these, one by one.
-fn has_constants(view: &IfaceView<'_>) -> bool {
-    for (constant, row) in view.constants().zip(&CONSTANTS) {
-        if !is_constant(&constant, row) {
-            return false;
+/// Whether a constant is there, and has this name, kind and value.
+fn is_constant(found: Option<ConstView<'_>>, name: &str, kind: ConstKind, value: i64) -> bool {
+    match found {
+        Some(constant) => {
+            constant.name() == name.as_bytes()
+                && constant.kind() == kind
+                && constant.value() == value
         }
+        None => false,
     }
-    view.constants().count() == CONSTANTS.len()
 }
 
-/// Whether the second constant of an interface is the last.
-fn has_second(view: &IfaceView<'_>) -> bool {
-    let is_second = match view.constant(1) {
-        Some(second) => is_constant(&second, &CONSTANTS[1]),
-        None => false,
-    };
-    is_second && view.constant(2).is_none()
+/// Whether an interface has the constants of nsIA, one by one and by their numbers.
+fn has_constants(view: &IfaceView<'_>) -> bool {
+    let mut constants = view.constants();
+    is_constant(constants.next(), "a", ConstKind::I16, -1)
+        && is_constant(constants.next(), "b", ConstKind::U32, 4_294_967_295)
+        && constants.next().is_none()
+        && is_constant(view.constant(1), "b", ConstKind::U32, 4_294_967_295)
+        && view.constant(2).is_none()
 }
 
 #[test]
 fn constants_are_read(rt: HostRuntime) {
     let lib = family(&rt);
     let view = lib.iface(1).expect(&rt, "nsIA");
-    assert!(rt; has_constants(&view) && has_second(&view));
+    assert!(rt; has_constants(&view));
 }
 
 /// An argument of 32 bits that is passed by its value.
@@ -232,17 +219,23 @@ const ARGC: ProtoArg = ProtoArg {
     note: Note::Argc,
 };
 
-/// The arguments of g, by their positions.
-const ARGS: [(u32, ProtoArg); 4] = [(0, LONG_IN), (1, CONTEXT), (2, ARGC), (3, LONG_OUT)];
-
-/// Whether the arguments of a method are these, one by one and by their positions.
-fn has_args(method: &MethodView<'_>) -> bool {
-    for (arg, (position, row)) in method.args().zip(&ARGS) {
-        if arg != *row || method.arg(*position) != Some(*row) {
-            return false;
-        }
+/// Whether an argument is the same one by one and by its position, and this.
+fn is_arg(next: Option<ProtoArg>, placed: Option<ProtoArg>, wanted: &ProtoArg) -> bool {
+    match (next, placed) {
+        (Some(next), Some(placed)) => next == *wanted && placed == *wanted,
+        _ => false,
     }
-    method.args().count() == ARGS.len() && method.arg(4).is_none()
+}
+
+/// Whether the arguments of a method are those of g, one by one and by their positions.
+fn has_args(method: &MethodView<'_>) -> bool {
+    let mut args = method.args();
+    is_arg(args.next(), method.arg(0), &LONG_IN)
+        && is_arg(args.next(), method.arg(1), &CONTEXT)
+        && is_arg(args.next(), method.arg(2), &ARGC)
+        && is_arg(args.next(), method.arg(3), &LONG_OUT)
+        && args.next().is_none()
+        && method.arg(4).is_none()
 }
 
 /// Whether a method has two parameters, at the first and the last of four positions.

@@ -1,5 +1,6 @@
 //! The bytes that are written for libraries.
 
+use crate::cases::check;
 use crate::examples::{Example, library_of};
 use typelib_writer::{WriteError, write};
 use xp_base::Bytes;
@@ -24,11 +25,11 @@ const ONE_CONSTANT: [u8; 85] = [
     0x06, 0x01, 0x00, 0x0a, 0x00,
 ];
 
-/// The examples, each with its typelib; None where that is too long.
-const EXAMPLES: [(Example, Option<&[u8]>); 3] = [
-    (Example::OneMethod, Some(&ONE_METHOD)),
-    (Example::OneConstant, Some(&ONE_CONSTANT)),
-    (Example::ManyConstants, None),
+/// The examples, each with its typelib, behind what it has; None where that is too long.
+const EXAMPLES: [(&str, Example, Option<&[u8]>); 3] = [
+    ("one method", Example::OneMethod, Some(&ONE_METHOD)),
+    ("one constant", Example::OneConstant, Some(&ONE_CONSTANT)),
+    ("many constants", Example::ManyConstants, None),
 ];
 
 /// Whether this typelib was written, or none since it is too long.
@@ -42,9 +43,9 @@ fn is_typelib(written: &Result<Bytes, WriteError>, typelib: Option<&[u8]>) -> bo
 
 #[test]
 fn libraries_are_written(rt: HostRuntime) {
-    for (example, typelib) in &EXAMPLES {
-        let library = library_of(rt.alloc(), *example).expect(&rt, "a library");
+    for (case, example, typelib) in &EXAMPLES {
+        let library = library_of(rt.alloc(), *example).expect(&rt, case);
         let written = write(rt.alloc(), &library);
-        assert!(rt; is_typelib(&written, *typelib), "of {example:?}");
+        check(&rt, case, is_typelib(&written, *typelib));
     }
 }
