@@ -1,43 +1,24 @@
+use crate::texts::{add_bytes, add_numbers, check, check_that};
 use call_model::Conv;
 use machine_bench::{Bench, MemBench, NoBench, Sight};
 use object_memory::{CELLS_AT, Frame, Machine, Width};
+use std::alloc::Global;
 use std::process::Abort;
 
-/// What a sight has to show. Of vtable and heap, their length and their last bytes.
-struct Shown<'a> {
-    name: &'a str,
-    gprs: &'a [u64],
-    fprs: &'a [u64],
-    stack: &'a [u8],
-    cells: &'a [u64],
-    heap_len: usize,
-    heap_end: &'a [u8],
-}
+/// What a machine shows before anything was done to it: registers, stack, cells, and the length of
+/// vtable and heap.
+const NEW: &str = "gpr 0 0 0 0 0 0 0 0; fpr 0 0 0 0 0 0 0 0; stack; cells; heap 7d0";
 
-/// A machine before anything was done to it, and as `make_busy` leaves it.
-const SHOWN: [Shown<'static>; 2] = [
-    Shown {
-        name: "a new machine",
-        gprs: &[0; 8],
-        fprs: &[0; 8],
-        stack: &[],
-        cells: &[],
-        heap_len: 0x7d0,
-        // (the entry of slot 249 is 0x1f90)
-        heap_end: &[0x90, 0x1f, 0, 0, 0, 0, 0, 0],
-    },
-    Shown {
-        name: "a busy machine",
-        gprs: &[0, 0, 7, 0, 0, 0, 0, 0],
-        fprs: &[9, 0, 0, 0, 0, 0, 0, 0],
-        stack: &[1, 2, 0, 0],
-        cells: &[0, 0x1122],
-        heap_len: 0x7f0,
-        heap_end: &[
-            5, 6, 0, 0, 0, 0, 0, 0, 0, 0, 0, 0, 0, 0, 0, 0, 0, 0, 1, 0, 0, 0, 0, 0, 0, 0, 0, 0, 0,
-            0, 0, 0,
-        ],
-    },
+/// The last bytes of its vtable and heap (the entry of slot 249 is 0x1f90).
+const NEW_END: [u8; 8] = [0x90, 0x1f, 0, 0, 0, 0, 0, 0];
+
+/// What it shows as `make_busy` leaves it.
+const BUSY: &str =
+    "gpr 0 0 7 0 0 0 0 0; fpr 9 0 0 0 0 0 0 0; stack 1 2 0 0; cells 0 1122; heap 7f0";
+
+/// The last bytes of its vtable and heap then.
+const BUSY_END: [u8; 32] = [
+    5, 6, 0, 0, 0, 0, 0, 0, 0, 0, 0, 0, 0, 0, 0, 0, 0, 0, 1, 0, 0, 0, 0, 0, 0, 0, 0, 0, 0, 0, 0, 0,
 ];
 
 /// Registers and a stack.
@@ -63,14 +44,24 @@ fn make_busy(rt: &impl Abort, machine: &mut Machine) {
     fill(machine.frame_mut());
 }
 
-/// Whether a sight shows what it has to.
-fn shows(sight: &Sight, shown: &Shown<'_>) -> bool {
-    sight.gprs.as_slice() == shown.gprs
-        && sight.fprs.as_slice() == shown.fprs
-        && sight.stack.as_slice() == shown.stack
-        && sight.cells.as_slice() == shown.cells
-        && sight.heap.as_slice().len() == shown.heap_len
-        && sight.heap.as_slice().ends_with(shown.heap_end)
+/// A sight shows what it has to, and vtable and heap end in these bytes.
+fn check_sight(
+    rt: &impl Abort,
+    alloc: Global,
+    name: &str,
+    sight: &Sight,
+    wanted: &str,
+    end: &[u8],
+) {
+    let heap = sight.heap.as_slice();
+    check_that(rt, name, heap.ends_with(end));
+    let mut text = String::new(alloc);
+    add_numbers(rt, &mut text, "gpr", sight.gprs.as_slice());
+    add_numbers(rt, &mut text, "; fpr", sight.fprs.as_slice());
+    add_bytes(rt, &mut text, "; stack", sight.stack.as_slice());
+    add_numbers(rt, &mut text, "; cells", sight.cells.as_slice());
+    add_numbers(rt, &mut text, "; heap", &[heap.len() as u64]);
+    check(rt, name, text.as_str(), wanted);
 }
 
 /// Looks at a machine before and after it is made busy.
@@ -80,15 +71,19 @@ fn look_twice<B: Bench>(rt: &impl Abort, machine: &mut Machine, bench: &mut B) {
     bench.look(machine).expect(rt, "a look");
 }
 
+/// Each of two sights shows what it has to.
+fn check_sights(rt: &impl Abort, alloc: Global, sights: &[Sight]) {
+    assert!(rt; sights.len() == 2, "two looks");
+    check_sight(rt, alloc, "a new machine", &sights[0], NEW, &NEW_END);
+    check_sight(rt, alloc, "a busy machine", &sights[1], BUSY, &BUSY_END);
+}
+
 #[test]
 fn a_bench_remembers_what_it_was_shown(rt: HostRuntime) {
     let mut machine = Machine::new(rt.alloc(), Conv::SysV64).expect(&rt, "a machine");
     let mut bench = MemBench::new(rt.alloc());
     look_twice(&rt, &mut machine, &mut bench);
-    assert!(rt; bench.sights().len() == 2, "two looks");
-    for (sight, shown) in bench.sights().as_slice().iter().zip(&SHOWN) {
-        assert!(rt; shows(sight, shown), "{}", shown.name);
-    }
+    check_sights(&rt, rt.alloc(), bench.sights().as_slice());
 }
 
 #[test]

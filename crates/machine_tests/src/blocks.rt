@@ -1,14 +1,18 @@
 ghost use Rattle.std.specs.Prelude.{◌+◌, ◌≤◌, length};
 
+use crate::texts::{add_bytes, check, check_that};
 use raw_block::Block;
+use std::alloc::Global;
+use std::process::Abort;
 
 /// What is done at a place of a block, or read there.
-enum Access<'a> {
+enum Access {
     Store1(u8),
     Store2(u16),
     Store4(u32),
     Store8(u64),
-    Copy(&'a [u8]),
+    CopyTwo,
+    CopyNone,
     Load1(u8),
     Load2(u16),
     Load4(u32),
@@ -16,31 +20,29 @@ enum Access<'a> {
 }
 
 /// An access at a place of a block of 16 bytes, and the bytes after it.
-struct Step<'a> {
-    name: &'a str,
+struct Step {
+    name: &'static str,
     at: usize,
-    access: Access<'a>,
-    after: [u8; 16],
+    access: Access,
+    after: &'static str,
 }
 
-const NEW: [u8; 16] = [0; 16];
+/// The bytes that are copied.
+const TWO: [u8; 2] = [7, 8];
 
-const WIDE: [u8; 16] = [
-    0, 0, 0, 0x88, 0x77, 0x66, 0x55, 0x44, 0x33, 0x22, 0x11, 0, 0, 0, 0, 0,
-];
+/// The bytes of the block as they stand after one step or more.
+const NEW: &str = "bytes 0 0 0 0 0 0 0 0 0 0 0 0 0 0 0 0";
 
-const MIXED: [u8; 16] = [
-    0, 0, 0, 0x88, 0xcd, 0xab, 0x55, 0x44, 0x33, 0x22, 0x11, 0, 0, 0, 0, 0,
-];
+const WIDE: &str = "bytes 0 0 0 88 77 66 55 44 33 22 11 0 0 0 0 0";
 
-const LAST: [u8; 16] = [
-    0xff, 0, 0, 0x88, 0xcd, 0xab, 0x55, 0x44, 4, 3, 2, 1, 0, 0, 0, 0,
-];
+const MIXED: &str = "bytes 0 0 0 88 cd ab 55 44 33 22 11 0 0 0 0 0";
 
-const COPIED: [u8; 16] = [0xff, 0, 0, 0x88, 0xcd, 0xab, 7, 8, 4, 3, 2, 1, 0, 0, 0, 0];
+const LAST: &str = "bytes ff 0 0 88 cd ab 55 44 4 3 2 1 0 0 0 0";
+
+const COPIED: &str = "bytes ff 0 0 88 cd ab 7 8 4 3 2 1 0 0 0 0";
 
 /// What is done in turn to a new block.
-const STEPS: [Step<'static>; 11] = [
+const STEPS: [Step; 11] = [
     Step {
         name: "a new block",
         at: 0,
@@ -87,9 +89,7 @@ const STEPS: [Step<'static>; 11] = [
         name: "store4",
         at: 8,
         access: Access::Store4(0x0102_0304),
-        after: [
-            0, 0, 0, 0x88, 0xcd, 0xab, 0x55, 0x44, 4, 3, 2, 1, 0, 0, 0, 0,
-        ],
+        after: "bytes 0 0 0 88 cd ab 55 44 4 3 2 1 0 0 0 0",
     },
     Step {
         name: "store1",
@@ -100,19 +100,19 @@ const STEPS: [Step<'static>; 11] = [
     Step {
         name: "copy_in",
         at: 6,
-        access: Access::Copy(&[7, 8]),
+        access: Access::CopyTwo,
         after: COPIED,
     },
     Step {
         name: "copy_in of nothing",
         at: 8,
-        access: Access::Copy(&[]),
+        access: Access::CopyNone,
         after: COPIED,
     },
 ];
 
-/// Whether a load gives its number; a store is done.
-fn answers(block: &mut Block, at: usize, access: &Access<'_>) -> bool
+/// Whether a load gives its number; a store and a copy are done.
+fn answers(block: &mut Block, at: usize, access: &Access) -> bool
     requires { at + 8 ≤ length block.old }
 {
     match access {
@@ -120,7 +120,8 @@ fn answers(block: &mut Block, at: usize, access: &Access<'_>) -> bool
         Access::Store2(v) => block.store2(at, *v),
         Access::Store4(v) => block.store4(at, *v),
         Access::Store8(v) => block.store8(at, *v),
-        Access::Copy(bytes) => block.copy_in(at, &bytes[..bytes.len().min(8)]),
+        Access::CopyTwo => block.copy_in(at, &TWO),
+        Access::CopyNone => block.copy_in(at, &[]),
         Access::Load1(v) => return block.load1(at) == *v,
         Access::Load2(v) => return block.load2(at) == *v,
         Access::Load4(v) => return block.load4(at) == *v,
@@ -129,21 +130,27 @@ fn answers(block: &mut Block, at: usize, access: &Access<'_>) -> bool
     true
 }
 
-/// Whether a step answers what it has to, and leaves these bytes.
-fn is_done(block: &mut Block, step: &Step<'_>) -> bool {
-    if block.len() != 16 || step.at > 8 {
-        return false;
+/// A step answers what it has to, and leaves the bytes that it has to.
+fn check_step(rt: &impl Abort, alloc: Global, block: &mut Block, step: &Step) {
+    check_that(rt, step.name, block.len() == 16 && step.at <= 8);
+    check_that(rt, step.name, answers(block, step.at, &step.access));
+    let mut text = String::new(alloc);
+    add_bytes(rt, &mut text, "bytes", block.bytes(0, block.len()));
+    check(rt, step.name, text.as_str(), step.after);
+}
+
+/// Each step does what it has to.
+fn check_steps(rt: &impl Abort, alloc: Global, block: &mut Block, steps: &[Step]) {
+    for step in steps {
+        check_step(rt, alloc, block, step);
     }
-    answers(block, step.at, &step.access) && block.bytes(0, block.len()) == step.after.as_slice()
 }
 
 // A number may begin at any place, its low byte comes first, and no other byte changes.
 #[test]
 fn an_access_reaches_its_own_bytes_alone(rt: HostRuntime) {
     let mut block = Block::new(rt.alloc(), 16).expect(&rt, "a block");
-    for step in &STEPS {
-        assert!(rt; is_done(&mut block, step), "{}", step.name);
-    }
+    check_steps(&rt, rt.alloc(), &mut block, &STEPS);
 }
 
 #[test]

@@ -1,13 +1,12 @@
 //! Calls from cells: what the cells of arguments hold, and the entry and the frame of a call.
 
 use crate::begun::begin;
-use crate::texts::{add_cells, add_frame, check};
-use crate::typelibs::{ADD, GET_X, MIX, PICK, SAMPLE, SAY, SET_X};
+use crate::texts::{add_cells, add_frame, add_numbers, check};
+use crate::typelibs::{ADD, GET_X, MIX, PICK, SAY, SET_X, method_of_sample};
 use call_model::Conv;
-use descriptor_reader::Typelib;
 use invoke_by_index::{Arg, ArgFault};
 use object_memory::{Machine, Width};
-use std::alloc::{AllocError, Global};
+use std::alloc::Global;
 use std::process::Abort;
 
 /// A call of a method of nsIT, through an object that stands alone in the heap; what is stored
@@ -265,27 +264,20 @@ const CALLS: [Call; 25] = [
     },
 ];
 
-/// Adds the entry of a call that was begun, or what does not fit of its arguments.
-fn add_begun(text: &mut String, begun: Result<u64, ArgFault>) -> Result<(), AllocError> {
+/// Adds what is left of a call: its entry, the cells and the frame where it was begun, or else what
+/// does not fit of its arguments, and the cells.
+fn tell(rt: &impl Abort, text: &mut String, begun: Result<u64, ArgFault>, machine: &Machine) {
     match begun {
-        Ok(entry) => write!(text, "entry {entry:x}"),
-        Err(fault) => write!(text, "{fault:?}"),
+        Ok(entry) => {
+            add_numbers(rt, text, "entry", &[entry]);
+            add_cells(rt, text, machine);
+            add_frame(rt, text, machine.frame());
+        }
+        Err(fault) => {
+            write!(text, "{fault:?}").expect(rt, "a text");
+            add_cells(rt, text, machine);
+        }
     }
-}
-
-/// Adds what is left of a call that was begun so.
-fn add_outcome(
-    rt: &impl Abort,
-    text: &mut String,
-    begun: Result<u64, ArgFault>,
-    machine: &Machine,
-) -> Result<(), AllocError> {
-    add_begun(text, begun)?;
-    add_cells(rt, text, machine)?;
-    if begun.is_ok() {
-        add_frame(text, machine.frame())?;
-    }
-    Ok(())
 }
 
 /// Adds an object to a new machine, stores the entry that a call of the table has stored, and
@@ -295,24 +287,22 @@ fn begin_on(rt: &impl Abort, machine: &mut Machine, call: &Call) -> Result<u64, 
     if let Some(entry) = call.stored {
         assert!(rt; machine.store(ADD_ENTRY_AT, Width::W8, entry));
     }
-    let lib = Typelib::check(&SAMPLE).expect(rt, "a typelib");
-    let method = lib.method_at(2, call.slot).expect(rt, "a method");
+    let method = method_of_sample(rt, call.slot);
     begin(rt, machine, this, &method, call.args)
 }
 
-/// What comes of a call of the table.
-fn outcome_of(rt: &impl Abort, alloc: Global, call: &Call) -> String {
+/// A call of the table comes to what it has to.
+fn check_call(rt: &impl Abort, alloc: Global, call: &Call) {
     let mut machine = Machine::new(alloc, call.conv).expect(rt, "a machine");
     let begun = begin_on(rt, &mut machine, call);
     let mut text = String::new(alloc);
-    add_outcome(rt, &mut text, begun, &machine).expect(rt, "a text");
-    text
+    tell(rt, &mut text, begun, &machine);
+    check(rt, call.name, text.as_str(), call.came);
 }
 
 #[test]
 fn a_call_passes_what_its_cells_hold(rt: HostRuntime) {
     for call in &CALLS {
-        let came = outcome_of(&rt, rt.alloc(), call);
-        check(&rt, call.name, came.as_str(), call.came);
+        check_call(&rt, rt.alloc(), call);
     }
 }

@@ -1,20 +1,18 @@
 //! Which objects hand their calls on, and how many in a row.
 
-ghost use Rattle.std.specs.Prelude.{ℕ, ◌<◌, IfOk, IsSome};
+ghost use Rattle.std.specs.Prelude.{ℕ, ◌<◌, IsSome};
 ghost use Rattle.proxy_objects.specs.Forwarding.{forward_of};
 
 use crate::texts::check;
 use call_model::Conv;
 use proxy_objects::{ForwardError, Forwards, MOST_FORWARDERS};
-use std::alloc::{AllocError, Global};
+use std::alloc::Global;
 use std::process::Abort;
 
 /// As many forwarders in a row as there may be: object 1 hands its calls on to object 0, and each
 /// other one to the object before it. The second has a convention of its own.
-fn row(rt: &impl Abort, alloc: Global) -> Result<Forwards, ForwardError>
-    ensures { IfOk
-        result
-        (λ forwards. (added : ℕ) → IsSome (forward_of forwards added) → added < 17) }
+fn row(rt: &impl Abort, alloc: Global) -> Forwards
+    ensures { (added : ℕ) → IsSome (forward_of result added) → added < 17 }
 {
     let mut forwards = Forwards::new(alloc);
     assert!(rt; forwards.of(0).is_none() && forwards.depth(0) == 0);
@@ -24,40 +22,40 @@ fn row(rt: &impl Abort, alloc: Global) -> Result<Forwards, ForwardError>
         } else {
             None
         };
-        forwards.add(target + 1, target, conv)?;
+        forwards.add(target + 1, target, conv).expect(rt, "a row");
         assert!(rt; forwards.depth(target + 1) == target + 1);
     }
-    Ok(forwards)
+    forwards
 }
 
 /// Adds object 17 behind one that is not full, where it can't be added behind the sixteenth.
-fn add_last(rt: &impl Abort, forwards: &mut Forwards) -> Result<(), ForwardError>
+fn add_last(rt: &impl Abort, forwards: &mut Forwards)
     requires { (added : ℕ) → IsSome (forward_of forwards.old added) → added < 17 }
 {
     assert!(rt; matches!(forwards.add(17, 16, None), Err(ForwardError::Depth)));
     assert!(rt; forwards.of(17).is_none() && forwards.depth(16) == 16);
-    forwards.add(17, 15, None)
-}
-
-/// The row, and object 17 behind the fifteenth of it.
-fn row_and_last(rt: &impl Abort, alloc: Global) -> Forwards {
-    let mut forwards = row(rt, alloc).expect(rt, "a row");
-    add_last(rt, &mut forwards).expect(rt, "one more");
-    forwards
+    forwards.add(17, 15, None).expect(rt, "one more");
 }
 
 /// What an object hands its calls on to, under which convention of its own, and how many forwarders
-/// stand on the way.
-fn known(alloc: Global, forwards: &Forwards, object: u32) -> Result<String, AllocError> {
-    let depth = forwards.depth(object);
-    match forwards.of(object) {
-        Some(forward) => {
-            let target = forward.target;
-            let conv = forward.conv;
-            format!(in alloc; "{target} {conv:?} depth {depth}")
-        }
-        None => format!(in alloc; "depth {depth}"),
+/// stand on the way, is what is wanted.
+fn check_object(
+    rt: &impl Abort,
+    alloc: Global,
+    forwards: &Forwards,
+    name: &str,
+    object: u32,
+    wanted: &str,
+) {
+    let mut text = String::new(alloc);
+    if let Some(forward) = forwards.of(object) {
+        let target = forward.target;
+        let conv = forward.conv;
+        write!(text, "{target} {conv:?} ").expect(rt, "a text");
     }
+    let depth = forwards.depth(object);
+    write!(text, "depth {depth}").expect(rt, "a text");
+    check(rt, name, text.as_str(), wanted);
 }
 
 /// An object, and what is known of it.
@@ -70,12 +68,17 @@ const KNOWN: [(&str, u32, &str); 6] = [
     ("an object that was not added", 18, "depth 0"),
 ];
 
+/// What is known of each object is what is wanted.
+fn check_known(rt: &impl Abort, alloc: Global, forwards: &Forwards) {
+    for (name, object, wanted) in &KNOWN {
+        check_object(rt, alloc, forwards, name, *object, wanted);
+    }
+}
+
 // Each on the last: the object behind the sixteenth can't be made a forwarder.
 #[test]
 fn the_seventeenth_forwarder_in_a_row_is_refused(rt: HostRuntime) {
-    let forwards = row_and_last(&rt, rt.alloc());
-    for (name, object, wanted) in &KNOWN {
-        let found = known(rt.alloc(), &forwards, *object).expect(&rt, name);
-        check(&rt, name, found.as_str(), wanted);
-    }
+    let mut forwards = row(&rt, rt.alloc());
+    add_last(&rt, &mut forwards);
+    check_known(&rt, rt.alloc(), &forwards);
 }

@@ -1,9 +1,12 @@
 ghost use Rattle.std.specs.Prelude.{IsTrue};
 ghost use Rattle.object_memory.specs.Frames.{IsPlace};
 
+use crate::texts::{check_frame, check_that};
 use call_model::{CType, Conv, Loc};
 use invoke_by_index::fill_frame;
 use object_memory::{Frame, Machine, Width};
+use std::alloc::Global;
+use std::process::Abort;
 use sysv_x86_64::Walk;
 
 /// Arguments of a call under sysv64, and the frame that it begins with.
@@ -11,9 +14,7 @@ struct Filled<'a> {
     name: &'a str,
     types: &'a [CType],
     patterns: &'a [u64],
-    gprs: [u64; 8],
-    fprs: [u64; 8],
-    stack: &'a [u8],
+    came: &'a str,
 }
 
 const LONGS: [CType; 8] = [
@@ -41,25 +42,14 @@ const NINE_DOUBLES: [CType; 11] = [
     CType::F64,
 ];
 
-/// Whether the frame has these registers.
-fn has_registers(frame: &Frame, gprs: &[u64; 8], fprs: &[u64; 8]) -> bool {
-    for i in 0..8 {
-        if frame.gpr(i) != gprs[i as usize] || frame.fpr(i) != fprs[i as usize] {
-            return false;
-        }
-    }
-    true
-}
-
-/// Whether a call fills the frame as it is to.
-fn is_filled(frame: &mut Frame, call: &Filled<'_>) -> bool {
-    if call.types.len() > 258 || call.types.len() != call.patterns.len() {
-        return false;
-    }
+/// A call fills the frame as it has to.
+fn check_filled(rt: &impl Abort, alloc: Global, frame: &mut Frame, call: &Filled<'_>) {
+    let count = call.types.len();
+    check_that(rt, call.name, count <= 258 && count == call.patterns.len());
     fill_frame::<Walk>(frame, call.types, call.patterns);
-    has_registers(frame, &call.gprs, &call.fprs)
-        && frame.stack() == call.stack
-        && frame.stack_len() as usize == call.stack.len()
+    let stack_len = frame.stack_len() as usize;
+    check_that(rt, call.name, stack_len == frame.stack().len());
+    check_frame(rt, alloc, call.name, frame, call.came);
 }
 
 /// Calls of one frame, in order.
@@ -68,36 +58,35 @@ const CALLS: [Filled<'static>; 3] = [
         name: "seven longs",
         types: &LONGS,
         patterns: &[0x107d0, 1, 2, 3, 4, 5, 6, 7],
-        gprs: [0x107d0, 1, 2, 3, 4, 5, 0, 0],
-        fprs: [0; 8],
-        stack: &[6, 0, 0, 0, 0, 0, 0, 0, 7, 0, 0, 0, 0, 0, 0, 0],
+        came: "; gpr 107d0 1 2 3 4 5 0 0; fpr 0 0 0 0 0 0 0 0; stack \
+            6 0 0 0 0 0 0 0 7 0 0 0 0 0 0 0",
     },
     Filled {
         name: "nine doubles and a long",
         types: &NINE_DOUBLES,
         patterns: &[0x107d0, 1, 2, 7, 3, 4, 5, 6, 7, 8, 9],
-        gprs: [0x107d0, 7, 0, 0, 0, 0, 0, 0],
-        fprs: [1, 2, 3, 4, 5, 6, 7, 8],
-        stack: &[9, 0, 0, 0, 0, 0, 0, 0],
+        came: "; gpr 107d0 7 0 0 0 0 0 0; fpr 1 2 3 4 5 6 7 8; stack 9 0 0 0 0 0 0 0",
     },
     Filled {
         name: "the object alone",
         types: &[CType::Ptr],
         patterns: &[0x107d0],
-        gprs: [0x107d0, 0, 0, 0, 0, 0, 0, 0],
-        fprs: [0; 8],
-        stack: &[],
+        came: "; gpr 107d0 0 0 0 0 0 0 0; fpr 0 0 0 0 0 0 0 0; stack",
     },
 ];
+
+/// Each call of one frame fills it as it has to.
+fn check_calls(rt: &impl Abort, alloc: Global, frame: &mut Frame, calls: &[Filled<'_>]) {
+    for call in calls {
+        check_filled(rt, alloc, frame, call);
+    }
+}
 
 // Nothing of an earlier call is left.
 #[test]
 fn a_frame_has_registers_and_stack_of_one_call(rt: HostRuntime) {
     let mut machine = Machine::new(rt.alloc(), Conv::SysV64).expect(&rt, "a machine");
-    let frame = machine.frame_mut();
-    for call in &CALLS {
-        assert!(rt; is_filled(frame, call), "{}", call.name);
-    }
+    check_calls(&rt, rt.alloc(), machine.frame_mut(), &CALLS);
 }
 
 /// Whether a location is a register, or so many bytes of the stack.
@@ -152,13 +141,17 @@ fn fill(frame: &mut Frame) {
     frame.set_stack_bytes(12, &[7, 8, 9]);
 }
 
+/// Each location of a frame has its own bytes.
+fn check_owns(rt: &impl Abort, frame: &Frame) {
+    for (name, at, n, value) in &OWNS {
+        check_that(rt, name, owns(frame, *at, *n) == Some(*value));
+    }
+}
+
 // What stands above the own bytes does not count.
 #[test]
 fn the_own_bytes_of_a_location_are_its_low_ones(rt: HostRuntime) {
     let mut machine = Machine::new(rt.alloc(), Conv::SysV64).expect(&rt, "a machine");
-    let frame = machine.frame_mut();
-    fill(frame);
-    for (name, at, n, value) in &OWNS {
-        assert!(rt; owns(frame, *at, *n) == Some(*value), "{name}");
-    }
+    fill(machine.frame_mut());
+    check_owns(&rt, machine.frame());
 }

@@ -1,14 +1,13 @@
 //! Calls that an object hands on, under the convention in which it was entered or one of its own.
 
 use crate::stubs::{calling, dispatch_here};
-use crate::texts::{add_frame, add_numbers, check};
-use crate::typelibs::SHORTS;
+use crate::texts::{add_frame, add_numbers, check, check_frame};
+use crate::typelibs::method_of_shorts;
 use call_model::Conv;
-use descriptor_reader::Typelib;
 use object_memory::Machine;
 use proxy_objects::forward_call;
 use script_calls::Forwarder;
-use std::alloc::{AllocError, Global};
+use std::alloc::Global;
 use std::process::Abort;
 
 /// What a forwarder is made of that receives a call of sh, and what comes of the call: the result,
@@ -73,46 +72,29 @@ const HANDED: [Handed; 6] = [
     },
 ];
 
-/// Hands the call of sh in a machine's frame over to a forwarder, and gives the result.
-fn hand_over(rt: &impl Abort, machine: &mut Machine, forwarder: &mut Forwarder) -> u32 {
-    let lib = Typelib::check(&SHORTS).expect(rt, "a typelib");
-    let method = lib.method_at(1, 3).expect(rt, "a method");
-    dispatch_here(rt, machine, &method, forwarder)
-}
-
-/// Adds what is left of a call that was answered so.
-fn tell(
-    text: &mut String,
-    answer: u32,
-    machine: &Machine,
-    forwarder: &Forwarder,
-) -> Result<(), AllocError> {
-    let entry = forwarder.entry();
-    write!(text, "result {answer:x}; entry {entry:x}; got")?;
-    add_numbers(text, forwarder.received())?;
-    add_frame(text, machine.frame())
-}
-
 /// A forwarder of a row.
 fn forwarder_of(rt: &impl Abort, alloc: Global, row: &Handed) -> Forwarder {
     Forwarder::new(alloc, row.conv, row.target, row.positions).expect(rt, "a forwarder")
 }
 
-/// What comes of a call that is handed on.
-fn outcome_of(rt: &impl Abort, alloc: Global, row: &Handed) -> String {
+/// A call that is handed on comes to what it has to.
+fn check_row(rt: &impl Abort, alloc: Global, row: &Handed) {
     let mut machine = calling(rt, alloc);
     let mut forwarder = forwarder_of(rt, alloc, row);
-    let result = hand_over(rt, &mut machine, &mut forwarder);
+    let method = method_of_shorts(rt);
+    let result = dispatch_here(rt, &mut machine, &method, &mut forwarder);
     let mut text = String::new(alloc);
-    tell(&mut text, result, &machine, &forwarder).expect(rt, "a text");
-    text
+    add_numbers(rt, &mut text, "result", &[u64::from(result)]);
+    add_numbers(rt, &mut text, "; entry", &[forwarder.entry()]);
+    add_numbers(rt, &mut text, "; got", forwarder.received());
+    add_frame(rt, &mut text, machine.frame());
+    check(rt, row.name, text.as_str(), row.came);
 }
 
 #[test]
 fn a_call_is_handed_on_to_its_target(rt: HostRuntime) {
     for row in &HANDED {
-        let came = outcome_of(&rt, rt.alloc(), row);
-        check(&rt, row.name, came.as_str(), row.came);
+        check_row(&rt, rt.alloc(), row);
     }
 }
 
@@ -120,20 +102,16 @@ fn a_call_is_handed_on_to_its_target(rt: HostRuntime) {
 const CLEAN: &str = "; gpr 107d0 ffffffffffff8001 0 0 0 0 0 0; fpr 0 0 0 0 0 0 0 0; stack";
 
 /// Hands the value of a call on to the first object under aapcs64, and gives the entry.
-fn hand_on(rt: &impl Abort, machine: &mut Machine) -> Option<u64> {
-    let lib = Typelib::check(&SHORTS).ok()?;
-    let method = lib.method_at(1, 3)?;
+fn hand_on(rt: &impl Abort, machine: &mut Machine) -> u64 {
+    let method = method_of_shorts(rt);
     assert!(rt; method.positions() == 1);
-    machine.slot_entry(0x107d0, method.slot())?;
-    let cells = [0xffff_ffff_ffff_8001];
-    Some(forward_call::<aapcs64::Walk>(machine, 0x107d0, &method, &cells))
+    assert!(rt; machine.slot_entry(0x107d0, method.slot()).is_some());
+    forward_call::<aapcs64::Walk>(machine, 0x107d0, &method, &[0xffff_ffff_ffff_8001])
 }
 
 #[test]
 fn a_call_is_handed_on_in_a_clean_frame(rt: HostRuntime) {
     let mut machine = calling(&rt, rt.alloc());
-    assert!(rt; hand_on(&rt, &mut machine) == Some(0x1030));
-    let mut text = String::new(rt.alloc());
-    add_frame(&mut text, machine.frame()).expect(&rt, "a text");
-    check(&rt, "aapcs64", text.as_str(), CLEAN);
+    assert!(rt; hand_on(&rt, &mut machine) == 0x1030);
+    check_frame(&rt, rt.alloc(), "aapcs64", machine.frame(), CLEAN);
 }

@@ -1,3 +1,4 @@
+use crate::texts::check_that;
 use call_model::{CType, Conv};
 use object_memory::{CELLS_AT, HEAP_LIMIT, HeapError, MOST_CELLS, Machine, VTABLE_AT, Width};
 use std::alloc::Global;
@@ -213,12 +214,17 @@ fn check_run(rt: &impl Abort, alloc: Global, machine: &mut Machine, run: &Run) {
     }
 }
 
+/// A new machine answers the calls of each run as it has to.
+fn check_runs(rt: &impl Abort, alloc: Global, runs: &[Run]) {
+    for run in runs {
+        let mut machine = Machine::new(alloc, run.conv).expect(rt, run.name);
+        check_run(rt, alloc, &mut machine, run);
+    }
+}
+
 #[test]
 fn a_machine_answers_each_call(rt: HostRuntime) {
-    for run in &RUNS {
-        let mut machine = Machine::new(rt.alloc(), run.conv).expect(&rt, run.name);
-        check_run(&rt, rt.alloc(), &mut machine, run);
-    }
+    check_runs(&rt, rt.alloc(), &RUNS);
 }
 
 /// A type under a convention, and its width.
@@ -239,6 +245,6 @@ const WIDTHS: [(&str, Conv, CType, Width); 6] = [
 #[test]
 fn a_type_has_the_width_of_its_own_bytes(rt: HostRuntime) {
     for (name, conv, ty, width) in &WIDTHS {
-        assert!(rt; Width::of(*conv, *ty) == *width, "{name}");
+        check_that(&rt, name, Width::of(*conv, *ty) == *width);
     }
 }

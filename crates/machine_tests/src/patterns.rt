@@ -1,3 +1,4 @@
+use crate::texts::check_that;
 use call_model::{CType, Conv, canonical, own_len};
 
 /// A type, a value, and its pattern.
@@ -44,7 +45,7 @@ const PATTERNS: [(&str, Conv, CType, u64, u64); 7] = [
 #[test]
 fn a_pattern_is_filled_above_the_own_bytes_of_its_value(rt: HostRuntime) {
     for (name, conv, ty, value, pattern) in &PATTERNS {
-        assert!(rt; canonical(*conv, *ty, *value) == *pattern, "{name}");
+        check_that(&rt, name, canonical(*conv, *ty, *value) == *pattern);
     }
 }
 
@@ -54,6 +55,6 @@ const WORDS: [(&str, Conv, u32); 2] = [("aapcs32", Conv::Aapcs32, 4), ("ms64", C
 #[test]
 fn a_pointer_has_a_word(rt: HostRuntime) {
     for (name, conv, bytes) in &WORDS {
-        assert!(rt; own_len(*conv, CType::Ptr) == *bytes, "{name}");
+        check_that(&rt, name, own_len(*conv, CType::Ptr) == *bytes);
     }
 }

@@ -1,3 +1,4 @@
+use crate::texts::check_that;
 use call_model::{CType, Conv, Convention, Loc, fprs_of, gprs_of, passes_at, word_of};
 
 /// Arguments, and where a convention passes them.
@@ -185,7 +186,7 @@ const CALLS: [Call; 9] = [
 #[test]
 fn each_convention_passes_arguments_at_its_places(rt: HostRuntime) {
     for call in &CALLS {
-        assert!(rt; passes(call), "{}", call.name);
+        check_that(&rt, call.name, passes(call));
     }
 }
 
@@ -201,7 +202,11 @@ const STANDARDS: [(&str, Conv, u32, u8, u8); 5] = [
 #[test]
 fn words_and_registers_are_those_of_the_standards(rt: HostRuntime) {
     for (name, conv, word, gprs, fprs) in &STANDARDS {
-        let found = (word_of(*conv), gprs_of(*conv), fprs_of(*conv));
-        assert!(rt; found == (*word, *gprs, *fprs), "{name}");
+        let has_word = word_of(*conv) == *word;
+        check_that(
+            &rt,
+            name,
+            has_word && gprs_of(*conv) == *gprs && fprs_of(*conv) == *fprs,
+        );
     }
 }

@@ -3,14 +3,14 @@
 use crate::begun::begin;
 use crate::stubs::{dispatch_here, fill};
 use crate::texts::{add_bytes, add_cells, add_numbers, check};
-use crate::typelibs::{ADD, BOOLEANS, SAMPLE, SAY};
+use crate::typelibs::{ADD, BOOLEANS, SAY, method_of_sample};
 use call_model::Conv;
 use call_replies::Replier;
 use call_scripts::{ReplyItem, Term};
-use descriptor_reader::{MethodView, Typelib};
+use descriptor_reader::Typelib;
 use invoke_by_index::Arg;
 use object_memory::Machine;
-use std::alloc::{AllocError, Global};
+use std::alloc::Global;
 use std::process::Abort;
 use xp_base::{Bytes, List};
 
@@ -22,12 +22,14 @@ enum Part {
     InCell(u16),
 }
 
-/// An item of a rule.
+/// An item of a rule. A sum has two parts; bytes are filled in by two, or one alone.
 #[derive(Clone, Copy)]
-enum Item<'a> {
+enum Item {
     Result(u32),
-    Set(u16, Part, Option<Part>),
-    Fill(u16, u32, &'a [u8]),
+    Set(u16, Part),
+    Sum(u16, Part, Part),
+    Fill(u16, u32, [u8; 2]),
+    FillOne(u16, u32, u8),
 }
 
 fn term_of(part: Part) -> Term {
@@ -38,35 +40,38 @@ fn term_of(part: Part) -> Term {
     }
 }
 
-fn second_of(part: Option<Part>) -> Option<Term> {
-    match part {
-        Some(part) => Some(term_of(part)),
-        None => None,
-    }
-}
-
 fn bytes_of(rt: &impl Abort, alloc: Global, bytes: &[u8]) -> Bytes {
     Bytes::copy(alloc, bytes).expect(rt, "bytes")
 }
 
-fn item_of(rt: &impl Abort, alloc: Global, item: Item<'_>) -> ReplyItem {
+fn item_of(rt: &impl Abort, alloc: Global, item: Item) -> ReplyItem {
     match item {
         Item::Result(result) => ReplyItem::Result(result),
-        Item::Set(at, first, second) => ReplyItem::Set {
+        Item::Set(at, part) => ReplyItem::Set {
+            at,
+            first: term_of(part),
+            second: None,
+        },
+        Item::Sum(at, first, second) => ReplyItem::Set {
             at,
             first: term_of(first),
-            second: second_of(second),
+            second: Some(term_of(second)),
         },
         Item::Fill(at, offset, bytes) => ReplyItem::Fill {
             at,
             offset,
-            bytes: bytes_of(rt, alloc, bytes),
+            bytes: bytes_of(rt, alloc, &bytes),
+        },
+        Item::FillOne(at, offset, byte) => ReplyItem::Fill {
+            at,
+            offset,
+            bytes: bytes_of(rt, alloc, &[byte]),
         },
     }
 }
 
 /// A rule of these items.
-fn rule_of(rt: &impl Abort, alloc: Global, items: &[Item<'_>]) -> List<ReplyItem> {
+fn rule_of(rt: &impl Abort, alloc: Global, items: &[Item]) -> List<ReplyItem> {
     let mut rule = List::new(alloc);
     for item in items {
         rule.push(item_of(rt, alloc, *item)).expect(rt, "a rule");
@@ -80,7 +85,7 @@ fn replier(
     alloc: Global,
     entered: bool,
     positions: u32,
-    rule: Option<&[Item<'_>]>,
+    rule: Option<&[Item]>,
 ) -> Replier {
     let rule = match rule {
         Some(items) => Some(rule_of(rt, alloc, items)),
@@ -96,49 +101,32 @@ const DATA_AT: u64 = 0x107d0;
 const DATA: [u8; 8] = [0x11, 0x22, 0x33, 0x44, 0x55, 0x66, 0x77, 0x88];
 
 /// How many items the rule has that a replier gives back.
-fn kept_by(replier: Replier) -> usize {
+fn kept_by(replier: Replier) -> u64 {
     match replier.into_rule() {
-        Some(rule) => rule.len(),
+        Some(rule) => rule.len() as u64,
         None => 0,
     }
 }
 
-/// Adds what is left of a call that was answered so: the result, the values that were received, the
-/// data, and the cells.
-fn tell(
-    rt: &impl Abort,
-    text: &mut String,
-    answer: u32,
-    machine: &Machine,
-    replier: &Replier,
-) -> Result<(), AllocError> {
-    write!(text, "result {answer:x}; got")?;
-    add_numbers(text, replier.received())?;
-    text.push_str("; data")?;
-    add_bytes(text, machine.bytes(DATA_AT, 8).expect(rt, "no data"))?;
-    add_cells(rt, text, machine)
-}
-
-/// Adds how many items of its rule a replier gives back.
-fn tell_kept(text: &mut String, replier: Replier) -> Result<(), AllocError> {
-    let kept = kept_by(replier);
-    write!(text, "; kept {kept}")
-}
-
-/// What comes of the call in a machine's frame, and how many items of its rule the replier gives
-/// back.
-fn outcome(
+/// What is left of a call that was answered so is what is wanted: the result, the values that were
+/// received, the data, the cells, and how many items of its rule the replier gives back.
+fn check_left(
     rt: &impl Abort,
     alloc: Global,
-    machine: &mut Machine,
-    method: &MethodView<'_>,
-    mut replier: Replier,
-) -> String {
-    let result = dispatch_here(rt, machine, method, &mut replier);
+    name: &str,
+    answer: u32,
+    machine: &Machine,
+    replier: Replier,
+    wanted: &str,
+) {
     let mut text = String::new(alloc);
-    tell(rt, &mut text, result, machine, &replier).expect(rt, "a text");
-    tell_kept(&mut text, replier).expect(rt, "a text");
-    text
+    add_numbers(rt, &mut text, "result", &[u64::from(answer)]);
+    add_numbers(rt, &mut text, "; got", replier.received());
+    let data = machine.bytes(DATA_AT, 8).expect(rt, "no data");
+    add_bytes(rt, &mut text, "; data", data);
+    add_cells(rt, &mut text, machine);
+    add_numbers(rt, &mut text, "; kept", &[kept_by(replier)]);
+    check(rt, name, text.as_str(), wanted);
 }
 
 /// The address of the object that is called.
@@ -152,49 +140,45 @@ fn with_data(rt: &impl Abort, alloc: Global) -> Machine {
     machine
 }
 
-/// A call of a method of nsIT, how many arguments its replier is made for, the rule, and what comes
-/// of it.
+/// A call of add or say, how many arguments its replier is made for, the rule, and what comes.
 struct Replied {
     name: &'static str,
     slot: u16,
-    args: &'static [Arg],
     positions: u32,
-    rule: Option<&'static [Item<'static>]>,
+    rule: Option<&'static [Item]>,
     came: &'static str,
 }
 
-const TWO_NUMBERS: [Arg; 3] = [Arg::Value(2), Arg::Value(-1), Arg::Cell];
+/// The arguments of each call of add.
+const OF_ADD: [Arg; 3] = [Arg::Value(2), Arg::Value(-1), Arg::Cell];
+
+/// The arguments of each call of say.
+const OF_SAY: [Arg; 2] = [Arg::Value(0x107d0), Arg::ValueCell(-2)];
 
 const REPLIES: [Replied; 7] = [
     Replied {
         name: "a sum of values that came",
         slot: ADD,
-        args: &TWO_NUMBERS,
         positions: 3,
-        rule: Some(&[Item::Set(2, Part::Arg(0), Some(Part::Arg(1)))]),
+        rule: Some(&[Item::Sum(2, Part::Arg(0), Part::Arg(1))]),
         came: "result 0; got 2 ffffffffffffffff 40000010; data 11 22 33 44 55 66 77 88; \
             cells 2 ffffffffffffffff 1; kept 1",
     },
     Replied {
         name: "a number below zero in four bytes, and a result",
         slot: ADD,
-        args: &TWO_NUMBERS,
         positions: 3,
-        rule: Some(&[
-            Item::Set(2, Part::Number(-7), None),
-            Item::Result(0x8000_4005),
-        ]),
+        rule: Some(&[Item::Set(2, Part::Number(-7)), Item::Result(0x8000_4005)]),
         came: "result 80004005; got 2 ffffffffffffffff 40000010; data 11 22 33 44 55 66 77 88; \
             cells 2 ffffffffffffffff fffffff9; kept 2",
     },
     Replied {
         name: "a value in a cell, and bytes behind an address",
         slot: SAY,
-        args: &[Arg::Value(0x107d0), Arg::ValueCell(-2)],
         positions: 2,
         rule: Some(&[
-            Item::Set(1, Part::InCell(1), Some(Part::Number(5))),
-            Item::Fill(0, 1, &[0x41, 0x42]),
+            Item::Sum(1, Part::InCell(1), Part::Number(5)),
+            Item::Fill(0, 1, [0x41, 0x42]),
         ]),
         came: "result 0; got 107d0 40000008; data 11 41 42 44 55 66 77 88; \
             cells 107d0 ffffffffffff0003; kept 2",
@@ -202,12 +186,11 @@ const REPLIES: [Replied; 7] = [
     Replied {
         name: "bytes that end behind their block, after some that do not",
         slot: SAY,
-        args: &[Arg::Value(0x107d0), Arg::ValueCell(-2)],
         positions: 2,
         rule: Some(&[
-            Item::Fill(0, 0, &[0x41]),
-            Item::Set(1, Part::Number(9), None),
-            Item::Fill(0, 7, &[1, 2]),
+            Item::FillOne(0, 0, 0x41),
+            Item::Set(1, Part::Number(9)),
+            Item::Fill(0, 7, [1, 2]),
         ]),
         came: "result 80004003; got 107d0 40000008; data 11 22 33 44 55 66 77 88; \
             cells 107d0 fffffffffffffffe; kept 3",
@@ -215,7 +198,6 @@ const REPLIES: [Replied; 7] = [
     Replied {
         name: "no rule",
         slot: ADD,
-        args: &TWO_NUMBERS,
         positions: 3,
         rule: None,
         came: "result 80004001; got 2 ffffffffffffffff 40000010; data 11 22 33 44 55 66 77 88; \
@@ -224,16 +206,14 @@ const REPLIES: [Replied; 7] = [
     Replied {
         name: "a value for what is no cell",
         slot: ADD,
-        args: &TWO_NUMBERS,
         positions: 3,
-        rule: Some(&[Item::Set(0, Part::Number(1), None)]),
+        rule: Some(&[Item::Set(0, Part::Number(1))]),
         came: "result 80004003; got 2 ffffffffffffffff 40000010; data 11 22 33 44 55 66 77 88; \
             cells 2 ffffffffffffffff 0; kept 1",
     },
     Replied {
         name: "another number of arguments",
         slot: ADD,
-        args: &TWO_NUMBERS,
         positions: 2,
         rule: None,
         came: "result 80004003; got; data 11 22 33 44 55 66 77 88; \
@@ -241,22 +221,36 @@ const REPLIES: [Replied; 7] = [
     },
 ];
 
-/// What comes of a call through cells.
-fn outcome_of(rt: &impl Abort, alloc: Global, row: &Replied) -> String {
-    let lib = Typelib::check(&SAMPLE).expect(rt, "a typelib");
-    let method = lib.method_at(2, row.slot).expect(rt, "a method");
+/// The arguments of a call of add or say.
+fn args_of(slot: u16) -> &'static [Arg] {
+    if slot == ADD { &OF_ADD } else { &OF_SAY }
+}
+
+/// Begins the call of a row from cells, has a replier answer it, and gives the result.
+fn call(rt: &impl Abort, machine: &mut Machine, row: &Replied, replier: &mut Replier) -> u32 {
+    let method = method_of_sample(rt, row.slot);
+    assert!(rt; begin(rt, machine, OBJECT, &method, args_of(row.slot)).is_ok());
+    dispatch_here(rt, machine, &method, replier)
+}
+
+/// A call through cells comes to what it has to.
+fn check_reply(rt: &impl Abort, alloc: Global, row: &Replied) {
     let mut machine = with_data(rt, alloc);
-    assert!(rt; begin(rt, &mut machine, OBJECT, &method, row.args).is_ok());
-    let replier = replier(rt, alloc, false, row.positions, row.rule);
-    outcome(rt, alloc, &mut machine, &method, replier)
+    let mut replier = replier(rt, alloc, false, row.positions, row.rule);
+    let answer = call(rt, &mut machine, row, &mut replier);
+    check_left(rt, alloc, row.name, answer, &machine, replier, row.came);
+}
+
+/// Each call through cells comes to what it has to.
+fn check_replies(rt: &impl Abort, alloc: Global, rows: &[Replied]) {
+    for row in rows {
+        check_reply(rt, alloc, row);
+    }
 }
 
 #[test]
 fn a_call_is_answered_by_its_rule(rt: HostRuntime) {
-    for row in &REPLIES {
-        let came = outcome_of(&rt, rt.alloc(), row);
-        check(&rt, row.name, came.as_str(), row.came);
-    }
+    check_replies(&rt, rt.alloc(), &REPLIES);
 }
 
 /// Whether b8 counts as entered, the address that came for its boolean, and what comes of it.
@@ -292,23 +286,28 @@ const ENTERED: [Entered; 3] = [
 ];
 
 /// The rule of b8.
-const ONE: [Item<'static>; 1] = [Item::Set(0, Part::Number(1), None)];
+const ONE: [Item; 1] = [Item::Set(0, Part::Number(1))];
 
-/// What comes of a call of b8.
-fn outcome_of_entered(rt: &impl Abort, alloc: Global, row: &Entered) -> String {
+/// Enters b8 with an address, has a replier answer it, and gives the result.
+fn enter(rt: &impl Abort, machine: &mut Machine, address: u64, replier: &mut Replier) -> u32 {
     let lib = Typelib::check(&BOOLEANS).expect(rt, "a typelib");
     let method = lib.method_at(1, 3).expect(rt, "a method");
-    let mut machine = with_data(rt, alloc);
-    let gprs = [OBJECT, row.address, 0, 0, 0, 0, 0, 0];
+    let gprs = [OBJECT, address, 0, 0, 0, 0, 0, 0];
     fill(machine.frame_mut(), &gprs, &[]);
-    let replier = replier(rt, alloc, row.entered, 1, Some(&ONE));
-    outcome(rt, alloc, &mut machine, &method, replier)
+    dispatch_here(rt, machine, &method, replier)
+}
+
+/// A call of b8 comes to what it has to.
+fn check_entered(rt: &impl Abort, alloc: Global, row: &Entered) {
+    let mut machine = with_data(rt, alloc);
+    let mut replier = replier(rt, alloc, row.entered, 1, Some(&ONE));
+    let answer = enter(rt, &mut machine, row.address, &mut replier);
+    check_left(rt, alloc, row.name, answer, &machine, replier, row.came);
 }
 
 #[test]
 fn an_entered_method_writes_to_a_block(rt: HostRuntime) {
     for row in &ENTERED {
-        let came = outcome_of_entered(&rt, rt.alloc(), row);
-        check(&rt, row.name, came.as_str(), row.came);
+        check_entered(&rt, rt.alloc(), row);
     }
 }

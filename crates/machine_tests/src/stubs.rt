@@ -6,12 +6,12 @@ ghost use Rattle.object_memory.specs.Memory.{entry_at};
 ghost use Rattle.stub_dispatch.specs.Calls.{this_in};
 
 use crate::texts::{add_numbers, check};
-use crate::typelibs::SHORTS;
+use crate::typelibs::method_of_shorts;
 use call_model::{Conv, Convention, Loc};
-use descriptor_reader::{MethodView, Typelib};
+use descriptor_reader::MethodView;
 use object_memory::{Frame, Machine};
 use script_calls::dispatch_under;
-use std::alloc::{AllocError, Global};
+use std::alloc::Global;
 use std::process::Abort;
 use stub_dispatch::{Callee, FrameShort, recover};
 
@@ -103,15 +103,15 @@ const RECEIVED: [Received; 8] = [
     },
 ];
 
-/// Takes the cells of a call back from a frame.
+/// Takes the cells of a call of sh back from a frame.
 fn recover_by<C: Convention>(
     rt: &impl Abort,
     frame: &Frame,
-    method: &MethodView<'_>,
     cells: &mut [u64],
 ) -> Result<(), FrameShort> {
+    let method = method_of_shorts(rt);
     assert!(rt; cells.len() == method.positions() as usize);
-    recover::<C>(frame, method, cells)
+    recover::<C>(frame, &method, cells)
 }
 
 /// The same under a convention.
@@ -119,53 +119,39 @@ fn recover_under(
     rt: &impl Abort,
     conv: Conv,
     frame: &Frame,
-    method: &MethodView<'_>,
     cells: &mut [u64],
 ) -> Result<(), FrameShort> {
     match conv {
-        Conv::SysV64 => recover_by::<sysv_x86_64::Walk>(rt, frame, method, cells),
-        Conv::I386 => recover_by::<cdecl_i386::Walk>(rt, frame, method, cells),
-        Conv::Aapcs64 => recover_by::<aapcs64::Walk>(rt, frame, method, cells),
-        Conv::Ms64 => recover_by::<ms_x64::Walk>(rt, frame, method, cells),
-        Conv::Aapcs32 => recover_by::<aapcs32::Walk>(rt, frame, method, cells),
+        Conv::SysV64 => recover_by::<sysv_x86_64::Walk>(rt, frame, cells),
+        Conv::I386 => recover_by::<cdecl_i386::Walk>(rt, frame, cells),
+        Conv::Aapcs64 => recover_by::<aapcs64::Walk>(rt, frame, cells),
+        Conv::Ms64 => recover_by::<ms_x64::Walk>(rt, frame, cells),
+        Conv::Aapcs32 => recover_by::<aapcs32::Walk>(rt, frame, cells),
     }
 }
 
-/// The same of a call of sh.
-fn recover_from(
-    rt: &impl Abort,
-    conv: Conv,
-    frame: &Frame,
-    cells: &mut [u64],
-) -> Result<(), FrameShort> {
-    let lib = Typelib::check(&SHORTS).expect(rt, "a typelib");
-    let method = lib.method_at(1, 3).expect(rt, "a method");
-    recover_under(rt, conv, frame, &method, cells)
-}
-
-/// Adds whether cells were taken back, and what they hold.
-fn tell(text: &mut String, taken: Result<(), FrameShort>, cells: &[u64]) -> Result<(), AllocError> {
-    write!(text, "{taken:?}")?;
-    add_numbers(text, cells)
-}
-
-/// What comes of a frame.
-fn outcome_of(rt: &impl Abort, alloc: Global, row: &Received) -> String {
-    let mut machine = Machine::new(alloc, row.conv).expect(rt, "a machine");
-    fill(machine.frame_mut(), &row.gprs, row.stack);
+/// Adds whether the cell of the call of a row is taken back, and what it holds then.
+fn tell(rt: &impl Abort, text: &mut String, frame: &mut Frame, row: &Received) {
+    fill(frame, &row.gprs, row.stack);
     let mut cells = [BEFORE];
-    let taken = recover_from(rt, row.conv, machine.frame(), &mut cells);
+    let taken = recover_under(rt, row.conv, frame, &mut cells);
+    write!(text, "{taken:?}").expect(rt, "a text");
+    add_numbers(rt, text, "", &cells);
+}
+
+/// A frame comes to what it has to.
+fn check_row(rt: &impl Abort, alloc: Global, row: &Received) {
+    let mut machine = Machine::new(alloc, row.conv).expect(rt, "a machine");
     let mut text = String::new(alloc);
-    tell(&mut text, taken, &cells).expect(rt, "a text");
-    text
+    tell(rt, &mut text, machine.frame_mut(), row);
+    check(rt, row.name, text.as_str(), row.came);
 }
 
 // What stands in free bits and bytes does not count.
 #[test]
 fn a_value_is_taken_back_from_its_own_bytes(rt: HostRuntime) {
     for row in &RECEIVED {
-        let came = outcome_of(&rt, rt.alloc(), row);
-        check(&rt, row.name, came.as_str(), row.came);
+        check_row(&rt, rt.alloc(), row);
     }
 }
 
@@ -233,7 +219,7 @@ pub(crate) fn dispatch_here<K: Callee>(
     assert!(rt; machine.word() == 8);
     let entry = entry_of(machine, method).expect(rt, "no object");
     let answer = dispatch_under(Conv::SysV64, machine, entry, method, callee);
-    answer.ok().expect(rt, "a short frame")
+    answer.expect(rt, "a short frame")
 }
 
 /// The registers of a call of the object at 107e0 (hexadecimal), with bits set that do not count.
@@ -248,25 +234,25 @@ pub(crate) fn calling(rt: &impl Abort, alloc: Global) -> Machine {
     machine
 }
 
-/// Hands the call in a machine's frame over to a recorder, and gives the answer and the recorder.
-fn recorded(rt: &impl Abort, machine: &mut Machine) -> (u32, Recorder) {
-    let lib = Typelib::check(&SHORTS).expect(rt, "a typelib");
-    let method = lib.method_at(1, 3).expect(rt, "a method");
+/// Whether a recorder answers the call of sh in a machine's frame, and records it once.
+fn is_recorded(rt: &impl Abort, machine: &mut Machine) -> bool {
     let mut recorder = Recorder {
         calls: 0,
         object: 0,
         slot: 0,
         cell: 0,
     };
+    let method = method_of_shorts(rt);
     let answer = dispatch_here(rt, machine, &method, &mut recorder);
-    (answer, recorder)
+    answer == 7
+        && recorder.calls == 1
+        && recorder.object == 1
+        && recorder.slot == 3
+        && recorder.cell == 0xffff_ffff_ffff_8001
 }
 
 #[test]
 fn a_call_is_handed_over_once(rt: HostRuntime) {
     let mut machine = calling(&rt, rt.alloc());
-    let (answer, recorder) = recorded(&rt, &mut machine);
-    assert!(rt; answer == 7 && recorder.calls == 1);
-    assert!(rt; recorder.object == 1 && recorder.slot == 3);
-    assert!(rt; recorder.cell == 0xffff_ffff_ffff_8001);
+    assert!(rt; is_recorded(&rt, &mut machine));
 }
