@@ -1,6 +1,7 @@
 ghost use Rattle.std.specs.Prelude.{IsTrue};
 ghost use Rattle.object_memory.specs.Frames.{IsPlace};
 
+use crate::places::{NINE_DOUBLES, SEVEN_LONGS};
 use crate::texts::{check_frame, check_that};
 use call_model::{CType, Conv, Loc};
 use invoke_by_index::fill_frame;
@@ -17,31 +18,6 @@ struct Filled<'a> {
     came: &'a str,
 }
 
-const LONGS: [CType; 8] = [
-    CType::Ptr,
-    CType::I32,
-    CType::I32,
-    CType::I32,
-    CType::I32,
-    CType::I32,
-    CType::I32,
-    CType::I32,
-];
-
-const NINE_DOUBLES: [CType; 11] = [
-    CType::Ptr,
-    CType::F64,
-    CType::F64,
-    CType::I32,
-    CType::F64,
-    CType::F64,
-    CType::F64,
-    CType::F64,
-    CType::F64,
-    CType::F64,
-    CType::F64,
-];
-
 /// A call fills the frame as it has to.
 fn check_filled(rt: &impl Abort, alloc: Global, frame: &mut Frame, call: &Filled<'_>) {
     let count = call.types.len();
@@ -56,7 +32,7 @@ fn check_filled(rt: &impl Abort, alloc: Global, frame: &mut Frame, call: &Filled
 const CALLS: [Filled<'static>; 3] = [
     Filled {
         name: "seven longs",
-        types: &LONGS,
+        types: &SEVEN_LONGS,
         patterns: &[0x107d0, 1, 2, 3, 4, 5, 6, 7],
         came: "; gpr 107d0 1 2 3 4 5 0 0; fpr 0 0 0 0 0 0 0 0; stack \
             6 0 0 0 0 0 0 0 7 0 0 0 0 0 0 0",

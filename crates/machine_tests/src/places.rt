@@ -11,7 +11,7 @@ struct Call {
 }
 
 /// A long for each register that is left beside the object's address, and two more.
-const SEVEN_LONGS: [CType; 8] = [
+pub(crate) const SEVEN_LONGS: [CType; 8] = [
     CType::Ptr,
     CType::I32,
     CType::I32,
@@ -35,7 +35,7 @@ const EIGHT_LONGS: [CType; 9] = [
 ];
 
 /// Nine doubles with a long among them.
-const NINE_DOUBLES: [CType; 11] = [
+pub(crate) const NINE_DOUBLES: [CType; 11] = [
     CType::Ptr,
     CType::F64,
     CType::F64,
