@@ -1,12 +1,10 @@
 -- The words one by one: what is read is spelled so, and what is spelled so is read.
-use Rattle.std.proofs.Common.{◌≡◌, ℕ, zero, suc, ◌-◌, ◌<◌, Bool, true, false, cond, eqb, List, [], ◌∷◌, ◌++◌, length, take, drop, ℤ, pos, neg_ℤ, Option, Some, None, Result, Ok, Err, refl, sym, ap, subst, ◌∙◌, inl, inr, arith, length-append}
+use Rattle.std.proofs.Common.{◌≡◌, ℕ, zero, suc, ◌<◌, Bool, true, false, cond, eqb, List, [], ◌∷◌, ◌++◌, length, drop, ℤ, pos, neg_ℤ, Option, Some, None, Result, Ok, Err, refl, sym, ap, subst, ◌∙◌, inl, inr, arith}
 use Rattle.std.specs.Prelude.{codes, find}
 use Rattle.std.specs.Option.{option_map, option_map_or}
 use Rattle.std.specs.Result.{result_ok}
 use Rattle.std.specs.Str.{bytes_eq}
 use Rattle.std.specs.Str.Parse.{digits_value, starts_with_minus}
-use Rattle.std.proofs.Math.Seq.{take-append_seam, drop-append_seam}
-use Rattle.std.proofs.lemmas.List.{take-append-drop}
 use Rattle.std.proofs.lemmas.Bool.{false≢true, ne_eqb}
 use Rattle.std.proofs.lemmas.Option.{cond_some, none-some, same_Some}
 use Rattle.std.proofs.lemmas.Slice.Eq.{bytes_eq-Decides}
@@ -14,43 +12,11 @@ use Rattle.call_model.specs.declared.places.Conv.{Conv}
 use Rattle.call_model.specs.declared.places.Conv.TheVariants.{SysV64, I386, Aapcs64, Ms64, Aapcs32}
 use Rattle.hex.specs.Hex.{decode_of}
 use Rattle.xp_base.specs.Digits.{IsNatural, IsDecimal, decimal_value}
-use Rattle.call_scripts.specs.Reading.{after, before, bytes_of, conv_of, decimal_of, digits_of, iid_of, name_of, number_of}
-use Rattle.call_scripts.specs.Spellings.{Word, conv_word, is_name, IsNumber, IsDigits, IsBytes, IsIid}
+use Rattle.line_words.specs.Words.{Word, after}
+use Rattle.line_words.proofs.Prefixes.{after_read, after_spelled}
+use Rattle.call_scripts.specs.Reading.{bytes_of, conv_of, decimal_of, digits_of, iid_of, name_of, number_of}
+use Rattle.call_scripts.specs.Spellings.{conv_word, is_name, IsNumber, IsDigits, IsBytes, IsIid}
 use Rattle.call_scripts.proofs.Numerals.{digits_yes, digits_read}
-
--- ---- prefixes and suffixes
-
-pub after_read : (prefix w rest : Word) → after prefix w ≡ Some rest → w ≡ prefix ++ rest
-unfolding after
-after_read prefix w rest is =
-    let read = cond_some (bytes_eq (take (length prefix) w) prefix) (drop (length prefix) w) rest is in
-    let front : take (length prefix) w ≡ prefix = (bytes_eq-Decides (take (length prefix) w) prefix).0 read.0 in
-    sym (take-append-drop (length prefix) w) ∙ rw (front, read.1) refl
-
-pub after_spelled : (prefix rest : Word) → after prefix (prefix ++ rest) ≡ Some rest
-unfolding after
-after_spelled prefix rest =
-    let same : bytes_eq prefix prefix ≡ true = (bytes_eq-Decides prefix prefix).1 refl in
-    rw (take-append_seam prefix rest, drop-append_seam prefix rest, same) refl
-
-pub after_other : (p c : ℕ) (prefix rest : Word) → eqb c p ≡ false → after (p ∷ prefix) (c ∷ rest) ≡ None
-unfolding after
-after_other p c prefix rest other = rw other refl
-
-pub before_read : (suffix w front : Word) → before suffix w ≡ Some front → w ≡ front ++ suffix
-unfolding before
-before_read suffix w front is =
-    let n = length w - length suffix in
-    let read = cond_some (bytes_eq (drop n w) suffix) (take n w) front is in
-    let end : drop n w ≡ suffix = (bytes_eq-Decides (drop n w) suffix).0 read.0 in
-    sym (take-append-drop n w) ∙ rw (end, read.1) refl
-
-pub before_spelled : (suffix front : Word) → before suffix (front ++ suffix) ≡ Some front
-unfolding before
-before_spelled suffix front =
-    let n : length (front ++ suffix) - length suffix ≡ length front = omega (arith, length-append front suffix) in
-    let same : bytes_eq suffix suffix ≡ true = (bytes_eq-Decides suffix suffix).1 refl in
-    rw (n, take-append_seam front suffix, drop-append_seam front suffix, same) refl
 
 -- ---- names, bytes and IIDs
 

@@ -1,32 +1,24 @@
 -- Which bytes a word has not, so that a mark in a line is the first of its kind.
-use Rattle.std.proofs.Common.{◌≡◌, ℕ, ◌<◌, ◌≤◌, Bool, true, false, not, cond, eqb, ltb, leb, get_or, ◌&&◌, [], ◌∷◌, length, ℤ, None, refl, sym, ap, subst, ◌∙◌, inl, inr, arith}
+use Rattle.std.proofs.Common.{◌≡◌, ℕ, ◌<◌, ◌≤◌, Bool, true, false, not, cond, eqb, ltb, leb, get_or, ◌&&◌, [], ◌∷◌, length, ℤ, None, refl, sym, subst, inl, inr, arith}
 use Rattle.std.specs.Prelude.{◌⊎◌, codes}
 use Rattle.std.specs.List.{list_all}
 use Rattle.std.specs.Char.{is_digit, is_ascii_digit}
 use Rattle.std.proofs.Common.{◌||◌}
 use Rattle.std.specs.Str.{bytes_eq}
-use Rattle.std.proofs.lemmas.Bool.{false≢true, eqb-true, ne_eqb}
+use Rattle.std.proofs.lemmas.Bool.{eqb-true, ne_eqb}
 use Rattle.std.proofs.lemmas.Str.Parse.{digit_from_value}
 use Rattle.xp_base.specs.Digits.{IsNatural}
-use Rattle.call_scripts.specs.Reading.{after}
+use Rattle.line_words.specs.Words.{Word, after}
+use Rattle.line_words.proofs.Choices.{both}
+use Rattle.line_words.proofs.Marks.{all_lack, lacks}
+use Rattle.line_words.proofs.Prefixes.{after_other}
 use Rattle.call_scripts.specs.Lines.{IsValue, IsTerm}
-use Rattle.call_scripts.proofs.Choices.{both}
-use Rattle.call_scripts.specs.Spellings.{Word, is_name, is_name_byte, is_register, is_lower, IsNumber, IsDigits}
+use Rattle.call_scripts.specs.Spellings.{is_name, is_name_byte, is_register, is_lower, IsNumber, IsDigits}
 use Rattle.call_scripts.specs.declared.script.Term.{Term}
 use Rattle.call_scripts.specs.declared.script.Term.TheVariants as terms
 use Rattle.call_scripts.specs.declared.script.ValueWord.{ValueWord}
 use Rattle.call_scripts.specs.declared.script.ValueWord.TheVariants as values
-use Rattle.call_scripts.proofs.Atoms.{after_other}
-use Rattle.call_scripts.proofs.Cuts.{lacks}
 use Rattle.call_scripts.proofs.Numerals.{test_digits}
-
--- a byte that fails a test is not among those that pass it
-pub all_lack : (test : ℕ → Bool) (mark : ℕ) (w : Word) → test mark ≡ false → list_all test w ≡ true → lacks mark w ≡ true
-all_lack test mark [] free h = refl
-all_lack test mark (c ∷ w) free h =
-    let parts = both (test c) (list_all test w) h in
-    let other : eqb c mark ≡ false = ne_eqb c mark (λ e. false≢true (sym free ∙ (ap test (sym e) ∙ parts.0))) in
-    rw (other, all_lack test mark w free parts.1) refl
 
 pub name_lacks : (mark : ℕ) (w : Word) → is_name_byte mark ≡ false → is_name w ≡ true → lacks mark w ≡ true
 name_lacks mark w free h =

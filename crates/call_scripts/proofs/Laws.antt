@@ -10,32 +10,19 @@ use Rattle.call_scripts.specs.declared.script.Act.TheVariants.{Block, Object, Re
 use Rattle.call_scripts.specs.declared.script.Fill.{Fill}
 use Rattle.call_scripts.specs.declared.script.Fill.TheVariants.{Given, Zeros, Iid}
 use Rattle.call_scripts.specs.declared.script.Line.{Line}
-use Rattle.call_scripts.specs.Lines.{Each, IsAct, IsName, IsNothing, IsRead, AreRead, HasReading, IsFirstUnread, ReadsUpTo, IsItem, IsArg, IsFrameItem}
-use Rattle.call_scripts.specs.Reading.{◌>>=◌, Reading, act_of, add_line, after, arg_of, block_of, bridge_of, bytes_of, call_of, context_of, conv_of, digits_of, each_of, enter_of, fill_kind_of, frame_item_of, front_of, iid_of, is_comment, item_of, line_of, member_of, name_of, object_of, poke_of, proxy_of, reply_of, show_of, target_of, value_of, words_line_of}
-use Rattle.call_scripts.specs.Spellings.{Word, conv_word}
+use Rattle.call_scripts.specs.Lines.{IsAct, IsName, IsNothing, IsRead, AreRead, HasReading, IsFirstUnread, ReadsUpTo, IsItem, IsArg, IsFrameItem}
+use Rattle.line_words.specs.Words.{Word, ◌>>=◌, after, each_of}
+use Rattle.line_words.proofs.Choices.{bound, chosen, ways}
+use Rattle.line_words.proofs.Eaches.{each_read, each_spelled}
+use Rattle.line_words.proofs.Marks.{lacks}
+use Rattle.line_words.proofs.Prefixes.{after_read, after_spelled, same_bytes}
+use Rattle.call_scripts.specs.Reading.{Reading, act_of, add_line, arg_of, block_of, bridge_of, bytes_of, call_of, context_of, conv_of, digits_of, enter_of, fill_kind_of, frame_item_of, front_of, iid_of, is_comment, item_of, line_of, member_of, name_of, object_of, poke_of, proxy_of, reply_of, show_of, target_of, value_of, words_line_of}
+use Rattle.call_scripts.specs.Spellings.{conv_word}
 use Rattle.call_scripts.specs.Texts.{is_plain, joined, words}
-use Rattle.call_scripts.proofs.Atoms.{after_read, after_spelled, bytes_read, bytes_spelled, conv_read, conv_spelled, digits_spelled, iid_read, iid_spelled, name_read, name_spelled}
+use Rattle.call_scripts.proofs.Atoms.{bytes_read, bytes_spelled, conv_read, conv_spelled, digits_spelled, iid_read, iid_spelled, name_read, name_spelled}
 use Rattle.call_scripts.proofs.Lacking.{name_lacks}
-use Rattle.call_scripts.proofs.Cuts.{lacks}
 use Rattle.call_scripts.proofs.Numerals.{digits_read}
-use Rattle.call_scripts.proofs.Parts.{arg_read, arg_spelled, frame_item_read, frame_item_spelled, item_read, item_spelled, member_read, member_spelled, same_bytes, target_read, target_spelled, value_read, value_spelled}
-use Rattle.call_scripts.proofs.Choices.{bound, chosen, ways}
-
--- ---- one word for each value
-
-each_read : {A : Type 0} (read : Word → Option A) (Is : Word → A → Type 0) → ((w : Word) (v : A) → read w ≡ Some v → Is w v)
-    → (ws : List Word) (vs : List A) → each_of read ws ≡ Some vs → Each Is ws vs
-each_read read Is one [] vs h = sym (same_Some [] vs h)
-each_read {A} read Is one (w ∷ ws) vs h =
-    let v = bound (read w) (λ v. each_of read ws >>= λ vs. Some (v ∷ vs)) vs h in
-    let more = bound (each_of read ws) (λ vs. Some (v.0 ∷ vs)) vs v.2 in
-    subst (λ us. Each Is (w ∷ ws) us) (same_Some (v.0 ∷ more.0) vs more.2) (one w v.0 v.1, each_read read Is one ws more.0 more.1)
-
-each_spelled : {A : Type 0} (read : Word → Option A) (Is : Word → A → Type 0) → ((w : Word) (v : A) → Is w v → read w ≡ Some v)
-    → (ws : List Word) (vs : List A) → Each Is ws vs → each_of read ws ≡ Some vs
-each_spelled read Is one [] vs h = ap Some (sym h)
-each_spelled read Is one (w ∷ ws) [] h = absurd h
-each_spelled read Is one (w ∷ ws) (v ∷ vs) h = rw (one w v h.0, each_spelled read Is one ws vs h.1) refl
+use Rattle.call_scripts.proofs.Parts.{arg_read, arg_spelled, frame_item_read, frame_item_spelled, item_read, item_spelled, member_read, member_spelled, target_read, target_spelled, value_read, value_spelled}
 
 -- ---- what each command reads
 

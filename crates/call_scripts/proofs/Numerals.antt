@@ -12,8 +12,8 @@ use Rattle.std.proofs.Math.Nat.{pow-le-pow_right}
 use Rattle.uuid.specs.Text.{parsed, parsed_hyphenated}
 use Rattle.xp_base.specs.Digits.{IsNatural, IsDecimal, decimal_value}
 use Rattle.call_scripts.specs.Reading.{digits_of, decimal_of}
-use Rattle.call_scripts.proofs.Choices.{both, untested}
-use Rattle.call_scripts.specs.Spellings.{Word}
+use Rattle.line_words.specs.Words.{Word}
+use Rattle.line_words.proofs.Choices.{both, untested}
 
 -- every byte is a digit, as a test and as a fact
 all_digits : (radix : ℕ) (w : Word) → list_all (λ c. is_digit c radix) w ≡ true → AllDigits radix w

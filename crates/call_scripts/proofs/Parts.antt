@@ -23,20 +23,15 @@ use Rattle.call_scripts.specs.declared.script.Term.TheVariants as terms
 use Rattle.call_scripts.specs.declared.script.ValueWord.{ValueWord}
 use Rattle.call_scripts.specs.declared.script.ValueWord.TheVariants as values
 use Rattle.call_scripts.specs.Lines.{IsValue, IsTarget, IsMember, IsArg, IsTerm, IsSum, IsItem, IsFrameItem, IsName, kind_text}
-use Rattle.call_scripts.specs.Reading.{◌>>=◌, after, arg_of, before, bytes_of, cut_at, digits_of, fill_of, frame_item_of, item_of, member_of, method_of, name_of, number_of, out_of, set_of, sum_of, target_of, term_of, value_of}
-use Rattle.call_scripts.specs.Spellings.{Word, is_register, IsDigits}
-use Rattle.call_scripts.proofs.Atoms.{after_other, after_read, after_spelled, before_read, before_spelled, bytes_read, bytes_spelled, digits_spelled, name_read, name_spelled, number_read, number_spelled, test_some}
-use Rattle.call_scripts.proofs.Cuts.{cut_first, cut_gives, cut_none, lacks}
+use Rattle.line_words.specs.Words.{Word, ◌>>=◌, after, before, cut_at}
+use Rattle.line_words.proofs.Choices.{bound, chosen, fails_second, fails_too, ways}
+use Rattle.line_words.proofs.Marks.{cut_first, cut_gives, cut_none, lacks, lacks_join, marked}
+use Rattle.line_words.proofs.Prefixes.{after_other, after_read, after_spelled, before_read, before_spelled, same_bytes}
+use Rattle.call_scripts.specs.Reading.{arg_of, bytes_of, digits_of, fill_of, frame_item_of, item_of, member_of, method_of, name_of, number_of, out_of, set_of, sum_of, target_of, term_of, value_of}
+use Rattle.call_scripts.specs.Spellings.{is_register, IsDigits}
+use Rattle.call_scripts.proofs.Atoms.{bytes_read, bytes_spelled, digits_spelled, name_read, name_spelled, number_read, number_spelled, test_some}
 use Rattle.call_scripts.proofs.Lacking.{digits_lack, name_lacks, number_after, number_other, register_lacks, term_lacks, value_lacks, value_other, value_some}
 use Rattle.call_scripts.proofs.Numerals.{digits_read}
-use Rattle.call_scripts.proofs.Choices.{both, bound, chosen, fails_second, fails_too, ways}
-
-pub same_bytes : (w v : Word) → bytes_eq w v ≡ true → w ≡ v
-same_bytes w v h = (bytes_eq-Decides w v).0 h
-
--- a mark between two parts
-marked : (m : ℕ) (a b : Word) → a ++ m ∷ b ≡ a ++ (m ∷ []) ++ b
-marked m a b = sym (append_assoc a (m ∷ []) b)
 
 -- a name behind a mark
 named : {A : Type 0} (make : Word → A) (prefix w name : Word) (v : A) → after prefix w ≡ Some name → (name_of name >>= λ n. Some (make n)) ≡ Some v
@@ -182,10 +177,6 @@ arg_read w a h = elim (chosen (bytes_eq w (codes "_")) _ _ _ h) as (λ _. IsArg 
     | inr q ↦ let value = bound (value_of w) _ a q.1 in subst (λ u. IsArg w u) (same_Some _ a value.2) (value_read w value.0 value.1)
   ]
 ]
-
-lacks_join : (mark : ℕ) (a b : Word) → lacks mark a ≡ true → lacks mark b ≡ true → lacks mark (a ++ b) ≡ true
-lacks_join mark [] b h k = k
-lacks_join mark (c ∷ a) b h k = let parts = both (not (eqb c mark)) (lacks mark a) h in rw (parts.0, lacks_join mark a b parts.1 k) refl
 
 long_other : (w : Word) → 2 ≤ length w → bytes_eq w (codes "_") ≡ false
 long_other [] h = absurd (omega arith)

@@ -23,7 +23,8 @@ use Rattle.call_scripts.specs.declared.script.Term.{Term}
 use Rattle.call_scripts.specs.declared.script.Term.TheVariants as terms
 use Rattle.call_scripts.specs.declared.script.ValueWord.{ValueWord}
 use Rattle.call_scripts.specs.declared.script.ValueWord.TheVariants as values
-use Rattle.call_scripts.specs.Spellings.{Word, conv_word, is_name, is_register, IsNumber, IsDigits, IsBytes, IsIid}
+use Rattle.line_words.specs.Words.{Each, Word}
+use Rattle.call_scripts.specs.Spellings.{conv_word, is_name, is_register, IsNumber, IsDigits, IsBytes, IsIid}
 use Rattle.call_scripts.specs.Texts.{is_plain, joined, words}
 
 abbrev pub IsName : Word → Type 0
@@ -99,12 +100,6 @@ IsFrameItem w (Stack bytes) = (hex : Word) × (w ≡ codes "stack=" ++ hex) × I
 IsFrameItem w (Register name value) =
     (digits : Word) × (w ≡ name ++ codes "=" ++ digits) × (is_register name ≡ true)
     × (name ≢ codes "stack") × IsDigits 16 16 digits value
-
--- one word for each value
-abbrev pub Each : {A : Type 0} → (Word → A → Type 0) → List Word → List A → Type 0
-Each Is [] vs = vs ≡ []
-Each Is (w ∷ ws) [] = ⊥
-Each Is (w ∷ ws) (v ∷ vs) = Is w v × Each Is ws vs
 
 -- what the words of a line ask for, one case for each form of line
 abbrev pub IsAct : List Word → Act → Type 0

@@ -1,5 +1,5 @@
 -- What each word and each line reads as, if it has a reading.
-use Rattle.std.specs.Prelude.{◌≡◌, ℕ, ◌+◌, ◌-◌, find, position, Bool, ◌&&◌, if◌then◌else◌, ◌==◌, slice_index, nat_lt, nat_le, List, [], ◌∷◌, ◌++◌, length, take, drop, ℤ, pos, neg_ℤ, codes, Option, Some, None, Result, Ok, Err}
+use Rattle.std.specs.Prelude.{ℕ, ◌+◌, find, Bool, ◌&&◌, if◌then◌else◌, ◌==◌, slice_index, nat_lt, nat_le, List, [], ◌∷◌, ◌++◌, length, drop, ℤ, pos, neg_ℤ, codes, Option, Some, None}
 use Rattle.std.specs.List.{list_all}
 use Rattle.std.specs.Char.{is_digit}
 use Rattle.std.specs.Option.{option_map, option_map_or}
@@ -10,8 +10,7 @@ use Rattle.call_model.specs.declared.places.Conv.{Conv}
 use Rattle.call_model.specs.declared.places.Conv.TheVariants.{SysV64, I386, Aapcs64, Ms64, Aapcs32}
 use Rattle.hex.specs.Hex.{decode_of}
 use Rattle.uuid.specs.Text.{parsed_hyphenated}
-use Rattle.call_scripts.specs.declared.error.Unread.{Unread}
-use Rattle.call_scripts.specs.declared.error.Unread.TheVariants.{NoReading, NoMemory}
+use Rattle.line_words.specs.Words.{Word, ◌>>=◌, after, before, cut_at, each_of}
 use Rattle.call_scripts.specs.declared.script.Act.{Act}
 use Rattle.call_scripts.specs.declared.script.ArgWord.{ArgWord}
 use Rattle.call_scripts.specs.declared.script.EnterItem.{EnterItem}
@@ -32,35 +31,8 @@ use Rattle.call_scripts.specs.declared.script.Target.TheVariants as targets
 use Rattle.call_scripts.specs.declared.script.Term.TheVariants as terms
 use Rattle.call_scripts.specs.declared.script.Term.TheVariants.{Arg, InCell}
 use Rattle.call_scripts.specs.declared.script.ValueWord.TheVariants as values
-use Rattle.call_scripts.specs.Spellings.{Word, conv_word, is_name, is_register}
+use Rattle.call_scripts.specs.Spellings.{conv_word, is_name, is_register}
 use Rattle.call_scripts.specs.Texts.{is_plain, joined, words}
-
--- What a reader returned is what the reading is, unless memory ran out.
-abbrev pub Gives : {A : Type 0} → Result A Unread → Option A → Type 0
-Gives (Ok v) reading = reading ≡ Some v
-Gives (Err NoReading) reading = reading ≡ None
-Gives (Err NoMemory) reading = Unit {0}
-
-infixl 10 ◌>>=◌
-abbrev pub ◌>>=◌ : {A B : Type 0} → Option A → (A → Option B) → Option B
-None >>= f = None
-(Some x) >>= f = f x
-
--- what follows the prefix
-unfoldable pub after : Word → Word → Option Word
-after prefix w =
-    if bytes_eq (take (length prefix) w) prefix then Some (drop (length prefix) w) else None
-
--- what comes before the suffix
-unfoldable pub before : Word → Word → Option Word
-before suffix w =
-    if bytes_eq (drop (length w - length suffix) w) suffix
-    then Some (take (length w - length suffix) w)
-    else None
-
--- the parts before and after the first of a mark
-unfoldable pub cut_at : ℕ → Word → Option (Word × Word)
-cut_at mark w = option_map (λ at. (take at w, drop (at + 1) w)) (position (λ b. b == mark) w)
 
 unfoldable pub name_of : Word → Option Word
 name_of w = if is_name w then Some w else None
@@ -181,11 +153,6 @@ frame_item_of w =
     else if is_register parts.0
     then (digits_of 16 16 parts.1 >>= λ value. Some (Register parts.0 value))
     else None
-
--- all the readings, in order, where each word has one
-abbrev pub each_of : {A : Type 0} → (Word → Option A) → List Word → Option (List A)
-each_of read [] = Some []
-each_of read (w ∷ ws) = read w >>= λ v. each_of read ws >>= λ vs. Some (v ∷ vs)
 
 unfoldable pub fill_kind_of : Word → Word → Option Fill
 fill_kind_of kind w =

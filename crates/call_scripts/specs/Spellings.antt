@@ -8,11 +8,8 @@ use Rattle.std.specs.Char.{is_ascii_digit}
 use Rattle.std.specs.Str.Parse.{digits_value}
 use Rattle.hex.specs.Hex.{decode_of}
 use Rattle.uuid.specs.Text.{parsed_hyphenated}
+use Rattle.line_words.specs.Words.{Word}
 use Rattle.xp_base.specs.Digits.{IsNatural, IsHex, IsDecimal, hex_value, decimal_value}
-
--- a word of a line: its bytes
-abbrev pub Word : Type 0
-Word = List ℕ
 
 -- a lower-case letter
 abbrev pub is_lower : ℕ → Bool

@@ -1,7 +1,7 @@
 -- How the text of a script splits into lines, and a line into words.
 use Rattle.std.specs.Prelude.{ℕ, Bool, not, ◌&&◌, ◌||◌, ◌==◌, nat_le, List, [], ◌∷◌, ◌++◌, length, filter}
 use Rattle.std.specs.List.{list_all, slice_split, flat_map}
-use Rattle.call_scripts.specs.Spellings.{Word}
+use Rattle.line_words.specs.Words.{Word}
 
 -- spaces and tabs separate words
 abbrev pub is_blank : ℕ → Bool

@@ -1,13 +1,14 @@
 //! The commands of a script: one for each first word of a line.
 
 ghost use Rattle.std.specs.Prelude.{◌≡◌, ◌++◌, map};
-ghost use Rattle.call_scripts.specs.Reading.{Gives, act_of, block_of, bridge_of, call_of, context_of, each_of, enter_of, arg_of, frame_item_of, item_of, object_of, poke_of, proxy_of, reply_of, show_of};
+ghost use Rattle.line_words.specs.Words.{Gives, each_of};
+ghost use Rattle.call_scripts.specs.Reading.{act_of, block_of, bridge_of, call_of, context_of, enter_of, arg_of, frame_item_of, item_of, object_of, poke_of, proxy_of, reply_of, show_of};
 
 use crate::conventions::convention;
-use crate::error::Unread;
 use crate::forms::{arg, fill_kind, frame_item, item, member, target, value};
 use crate::script::{Act, ArgWord, EnterItem, Fill, ReplyItem};
-use crate::spellings::{after, bytes, name, offset};
+use crate::spellings::{bytes, name, offset};
+use line_words::{Unread, after};
 use std::alloc::Global;
 use xp_base::List;
 

@@ -2,16 +2,16 @@
 //! frames.
 
 ghost use Rattle.std.specs.Prelude.{◌≡◌, length};
-ghost use Rattle.call_scripts.specs.Reading.{Gives, arg_of, fill_kind_of, fill_of, frame_item_of, item_of, member_of, method_of, out_of, set_of, sum_of, target_of, term_of, value_of};
+ghost use Rattle.line_words.specs.Words.{Gives};
+ghost use Rattle.call_scripts.specs.Reading.{arg_of, fill_kind_of, fill_of, frame_item_of, item_of, member_of, method_of, out_of, set_of, sum_of, target_of, term_of, value_of};
 
-use crate::error::Unread;
 use crate::script::{
     ArgWord, EnterItem, Fill, MemberRef, MemberWord, ReplyItem, Target, Term, ValueWord,
 };
 use crate::spellings::{
-    after, before, bytes, cut_at, digits, hex_digits, iid, is_register, name, number, offset,
-    position, status,
+    bytes, digits, hex_digits, iid, is_register, name, number, offset, position, status,
 };
+use line_words::{Unread, after, before, cut_at};
 use std::alloc::Global;
 use xp_base::Bytes;
 

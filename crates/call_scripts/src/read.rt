@@ -1,17 +1,19 @@
 //! Scripts, line by line.
 
 ghost use Rattle.std.specs.Prelude.{◌≡◌, ◌⊎◌, ◌+◌, ◌≤◌, ◌<◌, length, map, IfErr, IfOk, None, OnErr, OnOk};
-ghost use Rattle.call_scripts.specs.declared.error.Unread.TheVariants.{NoReading};
+ghost use Rattle.line_words.specs.declared.error.Unread.TheVariants.{NoReading};
+ghost use Rattle.line_words.specs.Words.{Gives};
 ghost use Rattle.call_scripts.specs.declared.script.Script as spelled;
 ghost use Rattle.std.specs.Str.Lines.{lines};
 ghost use Rattle.call_scripts.specs.Lines.{Blames, IsScript, OneReading, ReadsUpTo};
 ghost use Rattle.call_scripts.specs.Reading as reading;
-ghost use Rattle.call_scripts.specs.Reading.{Gives, Reading, add_line, line_of, with_lines, words_line_of};
+ghost use Rattle.call_scripts.specs.Reading.{Reading, add_line, line_of, with_lines, words_line_of};
 
 use crate::commands::act;
-use crate::error::{ScriptError, Unread};
+use crate::error::ScriptError;
 use crate::script::{Front, Line, Script};
 use crate::texts::{is_plain, joined, next_line, words};
+use line_words::Unread;
 use std::alloc::Global;
 use xp_base::{List, MAX_TEXT, Memory};
 

@@ -1,33 +1,18 @@
 //! The words that a script's lines are made of, one by one.
 
-ghost use Rattle.std.specs.Prelude.{◌≡◌, ◌≤◌, ◌<◌, ◌^◌, ◌==◌, ◌||◌, ◌&&◌, not, length, position, IfSome};
+ghost use Rattle.std.specs.Prelude.{◌≡◌, ◌≤◌, ◌<◌, ◌^◌, ◌||◌, ◌&&◌, not, length, IfSome};
 ghost use Rattle.std.specs.List.{list_all};
 ghost use Rattle.std.specs.Char.{is_ascii_digit};
 ghost use Rattle.std.specs.Str.Parse.{starts_with_minus};
-ghost use Rattle.std.specs.Option.{option_copied, option_map};
 ghost use Rattle.call_scripts.specs.Spellings as spell;
-ghost use Rattle.call_scripts.specs.Reading.{Gives, after, before, bytes_of, cut_at, decimal_of, digits_of, iid_of, name_of, number_of};
+ghost use Rattle.line_words.specs.Words.{Gives};
+ghost use Rattle.call_scripts.specs.Reading.{bytes_of, decimal_of, digits_of, iid_of, name_of, number_of};
 
-use crate::error::Unread;
+use hex::FromHexError;
+use line_words::{Unread, after};
 use std::alloc::Global;
 use uuid::Uuid;
 use xp_base::{Bytes, dec_read, hex_read};
-
-/// What follows `prefix` in the word.
-#[tactic(auto, unfolding(crate::specs::Reading::after))]
-pub(crate) fn after<'a>(word: &'a [u8], prefix: &[u8]) -> Option<&'a [u8]>
-    ensures { option_copied result ≡ after prefix.now word.now }
-{
-    word.strip_prefix(prefix)
-}
-
-/// What comes before `suffix` in the word.
-#[tactic(auto, unfolding(crate::specs::Reading::before))]
-pub(crate) fn before<'a>(word: &'a [u8], suffix: &[u8]) -> Option<&'a [u8]>
-    ensures { option_copied result ≡ before suffix.now word.now }
-{
-    word.strip_suffix(suffix)
-}
 
 /// Whether the word is a name: 1 to 255 letters, digits and `_`, of which the first is no digit.
 pub(crate) fn is_name(word: &[u8]) -> bool
@@ -68,8 +53,11 @@ pub(crate) fn bytes(alloc: Global, word: &[u8]) -> Result<Bytes, Unread>
     if word.is_empty() {
         return Err(Unread::NoReading);
     }
-    let decoded = hex::decode(alloc, word)?;
-    Ok(Bytes::copy(alloc, decoded.as_slice())?)
+    match hex::decode(alloc, word) {
+        Ok(decoded) => Ok(Bytes::copy(alloc, decoded.as_slice())?),
+        Err(FromHexError::OutOfMemory) => Err(Unread::NoMemory),
+        Err(_) => Err(Unread::NoReading),
+    }
 }
 
 /// The sixteen bytes of an IID, in the order of its text.
@@ -156,22 +144,6 @@ pub(crate) fn status(word: &[u8]) -> Option<u32>
     ensures { result ≡ digits_of 16 8 word.now }
 {
     Some(hex_digits(word, 8)? as u32)
-}
-
-/// The parts of the word before and after the first `mark` in it.
-#[tactic(auto, unfolding(crate::specs::Reading::cut_at))]
-pub(crate) fn cut_at(word: &[u8], mark: u8) -> Option<(&[u8], &[u8])>
-    ensures { option_map (λ parts. (parts.0.now, parts.1.now)) result ≡ cut_at mark word.now }
-{
-    let at = place_of(word, mark)?;
-    Some((&word[..at], &word[at + 1..]))
-}
-
-fn place_of(word: &[u8], mark: u8) -> Option<usize>
-    ensures value { result ≡ position (λ b. b == mark) word.now }
-    ensures inside { IfSome result (λ at. at < length word.now) }
-{
-    word.iter().position(|b| *b == mark)
 }
 
 /// Whether the word is a register's name: a lower-case letter, and lower-case letters and digits

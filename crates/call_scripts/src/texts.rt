@@ -5,7 +5,7 @@ ghost use Rattle.std.specs.List.{flat_map};
 ghost use Rattle.std.specs.Str.Lines.{lines, strip_carriage_return};
 ghost use Rattle.call_scripts.specs.Texts as text;
 
-use crate::spellings::cut_at;
+use line_words::cut_at;
 use std::alloc::{AllocError, Global};
 use xp_base::{Bytes, Memory};
 

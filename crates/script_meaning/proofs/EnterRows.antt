@@ -17,6 +17,7 @@ use Rattle.script_meaning.specs.Members.{member_named}
 use Rattle.script_meaning.specs.Step.{call_of, enter_of, new_context, new_data, new_forwarder, new_object, new_rule, outcome, poked, shown_block, shown_variable}
 use Rattle.script_meaning.specs.Transcript.{static}
 use Rattle.call_scripts.specs.Reading as reading
+use Rattle.line_words.specs.Words as words
 use Rattle.script_meaning.proofs.Says.{Says}
 use Rattle.script_meaning.proofs.RowTables.{booleans, shorts}
 
@@ -117,8 +118,8 @@ they_say :
 unfolding digits decode_pairs by_index lineage_within member_within slots_within numbers frame_text
     low_bytes call_sights call_text chain_within entered_frame member_named call_of enter_of
     new_context new_data new_forwarder new_object new_rule outcome poked shown_block
-    shown_variable static reading.after reading.before reading.act_of reading.arg_of
-    reading.bytes_of reading.cut_at reading.decimal_of reading.digits_of reading.fill_of
+    shown_variable static words.after words.before reading.act_of reading.arg_of
+    reading.bytes_of words.cut_at reading.decimal_of reading.digits_of reading.fill_of
     reading.fill_kind_of reading.frame_item_of reading.iid_of reading.item_of reading.line_of
     reading.member_of reading.method_of reading.name_of reading.number_of reading.out_of
     reading.set_of reading.sum_of reading.target_of reading.term_of reading.value_of

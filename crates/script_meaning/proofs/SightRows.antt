@@ -16,6 +16,7 @@ use Rattle.script_meaning.specs.Transcript.{sights}
 use Rattle.hex.specs.Hex.{decode_pairs}
 use Rattle.call_scripts.specs.declared.script.Line.{Line}
 use Rattle.call_scripts.specs.Reading as reading
+use Rattle.line_words.specs.Words as words
 use Rattle.script_meaning.proofs.Says.{script_of, text_of}
 use Rattle.script_meaning.proofs.RowTables.{adding, shorts}
 
@@ -61,8 +62,8 @@ two_calls_shown :
     ∷ called 3 4 7 ∷ []
 unfolding call_of call_sights chain_within decode_pairs enter_of entered_frame lineage_within low_bytes
     member_named member_within new_forwarder new_object new_rule numbers outcome sights
-    slots_within reading.after reading.before reading.act_of reading.arg_of reading.bytes_of
-    reading.cut_at reading.decimal_of reading.digits_of reading.fill_of reading.fill_kind_of
+    slots_within words.after words.before reading.act_of reading.arg_of reading.bytes_of
+    words.cut_at reading.decimal_of reading.digits_of reading.fill_of reading.fill_kind_of
     reading.frame_item_of reading.iid_of reading.item_of reading.line_of reading.member_of
     reading.method_of reading.name_of reading.number_of reading.out_of reading.set_of
     reading.sum_of reading.target_of reading.term_of reading.value_of reading.words_line_of
@@ -98,8 +99,8 @@ a_bridge =
 a_bridge_shown : sights shorts SysV64 a_bridge ≡ given ∷ handed ∷ handed ∷ []
 unfolding call_of call_sights chain_within decode_pairs enter_of entered_frame lineage_within low_bytes
     member_named member_within new_forwarder new_object new_rule numbers outcome sights
-    slots_within reading.after reading.before reading.act_of reading.arg_of reading.bytes_of
-    reading.cut_at reading.decimal_of reading.digits_of reading.fill_of reading.fill_kind_of
+    slots_within words.after words.before reading.act_of reading.arg_of reading.bytes_of
+    words.cut_at reading.decimal_of reading.digits_of reading.fill_of reading.fill_kind_of
     reading.frame_item_of reading.iid_of reading.item_of reading.line_of reading.member_of
     reading.method_of reading.name_of reading.number_of reading.out_of reading.set_of
     reading.sum_of reading.target_of reading.term_of reading.value_of reading.words_line_of

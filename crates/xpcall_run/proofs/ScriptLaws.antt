@@ -5,7 +5,7 @@ use Rattle.std.proofs.lemmas.Option.{none-some, same_Some}
 use Rattle.call_scripts.specs.declared.script.Line.{Line}
 use Rattle.call_scripts.specs.declared.script.Script.{Script}
 use Rattle.call_scripts.specs.Lines.{AreRead, IsFirstUnread, IsScript}
-use Rattle.call_scripts.specs.Spellings.{Word}
+use Rattle.line_words.specs.Words.{Word}
 use Rattle.call_scripts.proofs.Laws.{one_line}
 
 lines_once : (number : ℕ) (texts : List Word) (a b : List Line) → AreRead number texts a

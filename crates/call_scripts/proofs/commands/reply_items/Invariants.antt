@@ -1,7 +1,8 @@
 use Rattle.std.proofs.Common.{◌≡◌, length}
 use Rattle.std.specs.Prelude.{map}
-use Rattle.call_scripts.specs.Reading.{each_of, item_of}
-use Rattle.call_scripts.proofs.Eaches.{with_front}
+use Rattle.line_words.specs.Words.{each_of}
+use Rattle.call_scripts.specs.Reading.{item_of}
+use Rattle.line_words.proofs.Eaches.{with_front}
 use Rattle.call_scripts.proofs.commands.reply_items.Given as goal
 
 abbrev pub invariant-loop-words : goal.invariant-loop-words

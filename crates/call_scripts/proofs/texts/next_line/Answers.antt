@@ -1,5 +1,6 @@
 use Rattle.std.proofs.Common.{sym, ap, length, arith, length-append}
-use Rattle.call_scripts.proofs.Cuts.{cut_gives, lines_cut, lines_last}
+use Rattle.line_words.proofs.Marks.{cut_gives}
+use Rattle.call_scripts.proofs.TextLines.{lines_cut, lines_last}
 use Rattle.call_scripts.proofs.texts.next_line.Goals as goal
 
 pub returns-in-Some-clause-cut : goal.returns-in-Some-clause-cut

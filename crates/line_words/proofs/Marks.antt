@@ -1,18 +1,40 @@
--- Where a mark cuts a word, and what prefixes and suffixes leave of one.
-use Rattle.std.proofs.Common.{◌≡◌, ℕ, zero, suc, ◌+◌, ◌<◌, ◌≤◌, Bool, true, false, not, cond, eqb, ltb, List, [], ◌∷◌, ◌++◌, length, take, drop, Option, Some, None, refl, ap, ◌∙◌, arith}
-use Rattle.std.specs.List.{All, list_all, position_or_len, slice_split}
+-- Where a mark cuts a word, and which words lack a mark.
+use Rattle.std.proofs.Common.{◌≡◌, ℕ, zero, suc, ◌+◌, ◌<◌, ◌≤◌, Bool, true, false, not, cond, eqb, ltb, [], ◌∷◌, ◌++◌, length, take, drop, Option, Some, None, refl, sym, ap, ◌∙◌, arith, append_assoc}
+use Rattle.std.specs.List.{All, list_all, position_or_len}
 use Rattle.std.specs.Option.{option_map}
-use Rattle.std.specs.Str.Lines.{lines, strip_carriage_return, lines_of_parts}
-use Rattle.std.proofs.lemmas.Bool.{eqb-true, eq-eqb, ltb-true, lt-ltb, ltb-false, le-ltb}
+use Rattle.std.proofs.lemmas.Bool.{false≢true, eqb-true, eq-eqb, ne_eqb, ltb-true, lt-ltb, ltb-false, le-ltb}
 use Rattle.std.proofs.Math.Numerals.{one-add}
-use Rattle.std.proofs.lemmas.List.Splits.{slice_split_at, slice_split_none, length-slice_split}
-use Rattle.call_scripts.specs.Reading.{cut_at}
-use Rattle.call_scripts.proofs.Choices.{both, not_true}
-use Rattle.call_scripts.specs.Spellings.{Word}
+use Rattle.line_words.specs.Words.{Word, cut_at}
+use Rattle.line_words.proofs.Choices.{both, not_true}
+
+-- ---- words that lack a mark
 
 -- no byte of the word is the mark
 abbrev pub lacks : ℕ → Word → Bool
 lacks mark w = list_all (λ b. not (eqb b mark)) w
+
+pub lacks_all : (mark : ℕ) (w : Word) → lacks mark w ≡ true → All (λ b. eqb b mark ≡ false) w
+lacks_all mark [] h k d inside = absurd (omega arith)
+lacks_all mark (b ∷ w) h zero d inside = not_true (eqb b mark) (both (not (eqb b mark)) (lacks mark w) h).0
+lacks_all mark (b ∷ w) h (suc k) d inside = lacks_all mark w (both (not (eqb b mark)) (lacks mark w) h).1 k d (omega arith)
+
+-- a byte that fails a test is not among those that pass it
+pub all_lack : (test : ℕ → Bool) (mark : ℕ) (w : Word) → test mark ≡ false → list_all test w ≡ true → lacks mark w ≡ true
+all_lack test mark [] free h = refl
+all_lack test mark (c ∷ w) free h =
+    let parts = both (test c) (list_all test w) h in
+    let other : eqb c mark ≡ false = ne_eqb c mark (λ e. false≢true (sym free ∙ (ap test (sym e) ∙ parts.0))) in
+    rw (other, all_lack test mark w free parts.1) refl
+
+pub lacks_join : (mark : ℕ) (a b : Word) → lacks mark a ≡ true → lacks mark b ≡ true → lacks mark (a ++ b) ≡ true
+lacks_join mark [] b h k = k
+lacks_join mark (c ∷ a) b h k = let parts = both (not (eqb c mark)) (lacks mark a) h in rw (parts.0, lacks_join mark a b parts.1 k) refl
+
+-- ---- cuts
+
+-- a mark between two parts
+pub marked : (m : ℕ) (a b : Word) → a ++ m ∷ b ≡ a ++ (m ∷ []) ++ b
+marked m a b = sym (append_assoc a (m ∷ []) b)
 
 abbrev push : ℕ → Word × Word → Word × Word
 push b parts = (b ∷ parts.0, parts.1)
@@ -74,30 +96,3 @@ cut_gives mark w a b is = rw is at (is_cut mark w)
 
 pub cut_gives_none : (mark : ℕ) (w : Word) → cut_at mark w ≡ None → lacks mark w ≡ true
 cut_gives_none mark w is = rw is at (is_cut mark w)
-
--- ---- lines
-
-lacks_all : (mark : ℕ) (w : Word) → lacks mark w ≡ true → All (λ b. eqb b mark ≡ false) w
-lacks_all mark [] h k d inside = absurd (omega arith)
-lacks_all mark (b ∷ w) h zero d inside = not_true (eqb b mark) (both (not (eqb b mark)) (lacks mark w) h).0
-lacks_all mark (b ∷ w) h (suc k) d inside = lacks_all mark w (both (not (eqb b mark)) (lacks mark w) h).1 k d (omega arith)
-
--- a line feed ends the first line
-first_part : (line : Word) (parts : List Word) → 0 < length parts → lines_of_parts (line ∷ parts) ≡ strip_carriage_return line ∷ lines_of_parts parts
-first_part line [] some = absurd (omega arith)
-first_part line (part ∷ parts) some = refl
-
--- the first line of a text, and those after it
-pub lines_cut : (text line rest : Word) → cut_at 10 text ≡ Some (line, rest) → lines text ≡ strip_carriage_return line ∷ lines rest
-lines_cut text line rest is =
-    let parts = cut_gives 10 text line rest is in
-    let split : slice_split (λ b. eqb b 10) text ≡ line ∷ slice_split (λ b. eqb b 10) rest =
-    rw parts.0 (slice_split_at (λ b. eqb b 10) line 10 rest (lacks_all 10 line parts.1) refl) in
-    let some : 0 < length (slice_split (λ b. eqb b 10) rest) = omega (arith, length-slice_split (λ b. eqb b 10) rest) in
-    ap lines_of_parts split ∙ first_part line (slice_split (λ b. eqb b 10) rest) some
-
--- the last line of a text, where no line feed ends it
-pub lines_last : (text : Word) → cut_at 10 text ≡ None → eqb (length text) 0 ≡ false → lines text ≡ text ∷ []
-lines_last text is some =
-    let split : slice_split (λ b. eqb b 10) text ≡ text ∷ [] = slice_split_none (λ b. eqb b 10) text (lacks_all 10 text (cut_gives_none 10 text is)) in
-    ap lines_of_parts split ∙ rw some refl

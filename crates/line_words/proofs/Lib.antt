@@ -1,0 +1,4 @@
+pub mod Choices
+pub mod Eaches
+pub mod Marks
+pub mod Prefixes
