@@ -5,6 +5,7 @@ use Rattle.std.specs.Option.{option_map_or}
 use Rattle.std.specs.Fmt.{decimal}
 use Rattle.std.specs.Str.{bytes_eq}
 use Rattle.call_model.specs.declared.ctypes.CType.{CType}
+use Rattle.line_words.specs.Words.{Word, Each}
 use Rattle.header_model.specs.declared.decls.Decl.{Decl}
 use Rattle.header_model.specs.declared.decls.DeclSlot.{DeclSlot}
 use Rattle.header_model.specs.declared.decls.DeclSlot.TheVariants as slots
@@ -13,8 +14,7 @@ use Rattle.header_model.specs.declared.lines.Line.{Line}
 use Rattle.header_model.specs.declared.lines.Line.TheVariants as lines
 use Rattle.header_model.specs.declared.states.State.{State}
 use Rattle.header_model.specs.declared.states.State.TheVariants.{Between, Begun, Inside}
-use Rattle.header_model.specs.Words.{Word}
-use Rattle.header_model.specs.Lines.{Each, IsLine, lines_of}
+use Rattle.header_model.specs.Lines.{IsLine, lines_of}
 
 -- a class of this name
 abbrev pub has_name : Word → Decl → Bool

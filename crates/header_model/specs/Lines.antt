@@ -1,10 +1,11 @@
 -- The lines of a header: how a text falls into them, and one form for each thing that a line says.
-use Rattle.std.specs.Prelude.{◌≡◌, ℕ, ◌==◌, true, List, [], ◌∷◌, ◌++◌, codes, Option, Some, None, if◌then◌else◌}
+use Rattle.std.specs.Prelude.{◌≡◌, ℕ, ◌==◌, true, List, [], ◌∷◌, ◌++◌, codes, Some, None, if◌then◌else◌}
 use Rattle.std.specs.List.{list_all}
 use Rattle.std.specs.Char.{is_ascii_digit}
+use Rattle.line_words.specs.Words.{Word, Each}
 use Rattle.header_model.specs.declared.lines.Line.{Line}
 use Rattle.header_model.specs.declared.lines.Line.TheVariants.{Forward, Class, Public, Reserved, Method, Close}
-use Rattle.header_model.specs.Words.{Word, IsName, IsArgument, joined}
+use Rattle.header_model.specs.Words.{IsName, IsArgument, joined}
 
 -- a byte before the first line
 abbrev pub begun : ℕ → List Word → List Word
@@ -15,12 +16,6 @@ begun b (line ∷ lines) = (b ∷ line) ∷ lines
 unfoldable pub lines_of : List ℕ → List Word
 lines_of [] = []
 lines_of (b ∷ text) = if b == 10 then (10 ∷ []) ∷ lines_of text else begun b (lines_of text)
-
--- one word for each value
-abbrev pub Each : {A : Type 0} → (Word → A → Type 0) → List Word → List A → Type 0
-Each Is [] vs = vs ≡ []
-Each Is (w ∷ ws) [] = ⊥
-Each Is (w ∷ ws) (v ∷ vs) = Is w v × Each Is ws vs
 
 -- what a line says, its line feed left out
 abbrev pub IsForm : Word → Line → Type 0

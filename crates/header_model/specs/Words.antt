@@ -1,14 +1,11 @@
 -- The words of a header: names, types and arguments.
-use Rattle.std.specs.Prelude.{◌≡◌, ◌≢◌, ◌⊎◌, ℕ, ◌==◌, Bool, true, not, ◌&&◌, ◌||◌, nat_lt, nat_le, List, [], ◌∷◌, ◌++◌, length, slice_index, codes}
+use Rattle.std.specs.Prelude.{◌≡◌, ◌⊎◌, ◌<◌, ℕ, ◌==◌, Bool, true, not, ◌&&◌, ◌||◌, nat_lt, nat_le, List, [], ◌∷◌, ◌++◌, length, slice_index, codes}
 use Rattle.std.specs.List.{list_all, flat_map}
 use Rattle.std.specs.Char.{is_ascii_digit}
 use Rattle.call_model.specs.declared.ctypes.CType.{CType}
 use Rattle.call_model.specs.declared.ctypes.CType.TheVariants as c
+use Rattle.line_words.specs.Words.{Word}
 use Rattle.header_model.specs.declared.limits.TheConstants.{MAX_NAME}
-
--- a word of a line: its bytes
-abbrev pub Word : Type 0
-Word = List ℕ
 
 -- a letter, a digit or `_`
 abbrev pub is_name_byte : ℕ → Bool
@@ -44,7 +41,7 @@ type_word c.Ptr = codes "void*"
 -- one `*` or more, or one `&`
 abbrev pub AreMarks : Word → Type 0
 AreMarks marks =
-    ((0 ≢ length marks) × (list_all (λ b. b == 42) marks ≡ true)) ⊎ (marks ≡ codes "&")
+    ((0 < length marks) × (list_all (λ b. b == 42) marks ≡ true)) ⊎ (marks ≡ codes "&")
 
 -- a pointer or a reference: a name and its marks
 abbrev pub IsPointer : Word → Type 0
