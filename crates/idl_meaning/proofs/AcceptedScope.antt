@@ -16,27 +16,32 @@ use Rattle.idl_meaning.specs.Attributes.{has, is_plain, uuid_of}
 use Rattle.idl_meaning.specs.Meaning.{Names, Bound, Typed, Forward, Defined, learns, meaning_of, sense, native_by, native_meaning, nsid_meaning, said_by}
 use Rattle.idl_meaning.specs.Scopes.{Known, nothing_known, number_or_next, defined_number, parent_bound, next_number, inside, stands_for, bare_iface, iface_made, members_made, placed, after_interface, after_forward, after_new, redeclares, after, after_items, after_files}
 use Rattle.idl_meaning.specs.Faults.{Declaration, codes_at, faults_with, inner_faults, item_faults, file_faults, faults_from}
-use Rattle.idl_meaning.specs.Accepted.{IsMeant, IsResult, IsAcceptedIface}
+use Rattle.idl_meaning.specs.Accepted.{IsMeant, IsAcceptedIface}
 use Rattle.idl_meaning.proofs.Identifiers.{iid-or-zero, uuid-long}
 use Rattle.idl_meaning.proofs.Methods.{stands-meant}
-use Rattle.idl_meaning.proofs.Members.{nil_left, nil_right, members-accepted}
+use Rattle.idl_meaning.proofs.Members.{nil_left, nil_right, members-accepted, members-differ, members-hide}
 use Rattle.idl_meaning.proofs.Good.{Placed, placed-last, placed-set, IsDefinedAt, IsGood, good-typed, defined-kept, meant-placed, good-placed}
 
 -- ---- natives
+
+-- what an option holds has such a meaning
+abbrev IfMeant : ℕ → Option Meant → Type 0
+IfMeant count None = Unit {0}
+IfMeant count (Some m) = IsMeant count m
 
 if-meant : (count : ℕ) (b : Bool) (m n : Meant) → IsMeant count m → IsMeant count n → IsMeant count (if b then m else n)
 if-meant count true m n h k = h
 if-meant count false m n h k = k
 
-if-result : (count : ℕ) (b : Bool) (o p : Option Meant) → IsResult count o → IsResult count p → IsResult count (if b then o else p)
+if-result : (count : ℕ) (b : Bool) (o p : Option Meant) → IfMeant count o → IfMeant count p → IfMeant count (if b then o else p)
 if-result count true o p h k = h
 if-result count false o p h k = k
 
-or-meant : (count : ℕ) (o : Option Meant) (m : Meant) → IsResult count o → IsMeant count m → IsMeant count (unwrap_or o m)
+or-meant : (count : ℕ) (o : Option Meant) (m : Meant) → IfMeant count o → IsMeant count m → IsMeant count (unwrap_or o m)
 or-meant count None m h k = k
 or-meant count (Some n) m h k = h
 
-said-meant : (count : ℕ) (nsid : Meant) (a : Attr) → IsMeant count nsid → IsResult count (said_by nsid a)
+said-meant : (count : ℕ) (nsid : Meant) (a : Attr) → IsMeant count nsid → IfMeant count (said_by nsid a)
 said-meant count nsid a h =
     if-result count (is_plain (codes "nsid") a) (Some nsid) _ h
     (if-result count (is_plain (codes "domstring") a) (Some (meant.StringClass 15)) _ refl
@@ -87,7 +92,10 @@ bare-accepted file decl name ifaces = record {
   identifier = refl;
   flags = record { scriptable = false; function = false; builtinclass = false; made = refl };
   members = λ k m e. absurd cc;
+  members_differ = λ j k a b at there same. absurd cc;
+  natives_hidden = λ h k m e. absurd cc;
   extends = λ p e. absurd cc;
+  unidentified = λ h. refl;
   parentless = λ h. refl;
   memberless = λ h. refl;
 }
@@ -95,7 +103,7 @@ bare-accepted file decl name ifaces = record {
 abbrev pub IsGoodAt : Known → Type 0
 IsGoodAt k = IsGood k.names k.ifaces
 
-none-bound : {A : Type 0} (o : Option A) → is_some o ≡ false → o ≡ None
+pub none-bound : {A : Type 0} (o : Option A) → is_some o ≡ false → o ≡ None
 none-bound None e = refl
 none-bound (Some x) e = absurd cc
 
@@ -115,7 +123,7 @@ forward-good file decl k name good = go (is_some (k.names name)) refl where
 -- ---- the definition of an interface
 
 -- the parent is defined
-parent-there : (k : Known) (written : Option (List ℕ)) (p : ℕ) → IsGoodAt k → defined_number (parent_bound k.names written) ≡ Some p → IsDefinedAt k.ifaces p
+pub parent-there : (k : Known) (written : Option (List ℕ)) (p : ℕ) → IsGoodAt k → defined_number (parent_bound k.names written) ≡ Some p → IsDefinedAt k.ifaces p
 parent-there k None p good e = absurd cc
 parent-there k (Some name) p good e = go (k.names name) refl e where
   go : (o : Option Bound) → k.names name ≡ o → defined_number o ≡ Some p → IsDefinedAt k.ifaces p
@@ -133,6 +141,7 @@ interface-good file decl k i good none =
     let x = iface_made file decl i (defined_number (parent_bound k.names i.parent)) (members_made 1 (inside k i) i.members) in
     let new = placed k.ifaces number x in
     let goes : Placed k.ifaces new number x = goes-by k.ifaces x (k.names i.name) (good.meanings i.name) in
+    let within = meant-placed k.names k.ifaces new i.name number b x good.meanings goes refl in
     good-placed k.names k.ifaces new i.name number b x good goes refl refl refl refl (inr refl) (λ n rank e. refl)
     (record {
       identifier = iid-or-zero (uuid_of i.attrs) (uuid-long i.attrs);
@@ -142,8 +151,11 @@ interface-good file decl k i good none =
         builtinclass = has (codes "builtinclass") i.attrs;
         made = refl;
       };
-      members = members-accepted i.members (length new) file decl 1 (inside k i) (meant-placed k.names k.ifaces new i.name number b x good.meanings goes refl) none;
+      members = members-accepted i.members (length new) file decl 1 (inside k i) within none;
+      members_differ = members-differ i.members file decl 1 (inside k i) none;
+      natives_hidden = members-hide i.members (length new) file decl 1 (inside k i) within none;
       extends = λ p e. defined-kept k.ifaces new number x goes (inr refl) p (parent-there k i.parent p good e);
+      unidentified = λ h. absurd cc;
       parentless = λ h. absurd cc;
       memberless = λ h. absurd cc;
     })

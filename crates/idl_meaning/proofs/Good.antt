@@ -1,5 +1,5 @@
 -- What is kept from declaration to declaration: each name is bound to what it should be, and each interface is accepted.
-use Rattle.std.proofs.Common.{◌≡◌, ℕ, zero, suc, ◌<◌, ◌≤◌, Bool, true, false, ◌⊎◌, inl, inr, List, [], ◌∷◌, ◌++◌, length, Option, Some, None, refl, sym, ap, ◌∙◌, arith, subst, if◌then◌else◌}
+use Rattle.std.proofs.Common.{◌≡◌, ℕ, zero, suc, ◌<◌, ◌≤◌, Bool, true, false, ◌⊎◌, inl, inr, List, [], ◌∷◌, ◌++◌, length, Option, Some, None, refl, sym, ap, ◌∙◌, arith, subst, if◌then◌else◌, true≢false}
 use Rattle.std.specs.Prelude.{slice_get, slice_set, IsSomeAnd, IsTrue}
 use Rattle.std.specs.Str.{bytes_eq}
 use Rattle.std.proofs.lemmas.Slice.Eq.{bytes_eq-Decides}
@@ -15,13 +15,17 @@ use Rattle.idl_meaning.proofs.Members.{meant-weaker, members-weaker}
 
 -- ---- one name more
 
--- what holds of what a name means now, and of what it meant before, holds of what it means
-pub learned : {A : Type 0} (P : Option A → Type 0) (old : List ℕ → Option A) (name : List ℕ) (v : Option A) (n : List ℕ) → (name ≡ n → P v) → P (old n)
-    → P (learns old name v n)
-learned P old name v n here there = go (bytes_eq name n) refl where
+-- what holds of what a name means now, and of what any other meant before, holds of what each means
+pub learned-other : {A : Type 0} (P : Option A → Type 0) (old : List ℕ → Option A) (name : List ℕ) (v : Option A) (n : List ℕ) → (name ≡ n → P v)
+    → ((name ≡ n → ⊥) → P (old n)) → P (learns old name v n)
+learned-other P old name v n here there = go (bytes_eq name n) refl where
   go : (b : Bool) → bytes_eq name n ≡ b → P (if b then v else old n)
   go true is = here ((bytes_eq-Decides name n).0 is)
-  go false is = there
+  go false is = there (λ same. true≢false (sym ((bytes_eq-Decides name n).1 same) ∙ is))
+
+pub learned : {A : Type 0} (P : Option A → Type 0) (old : List ℕ → Option A) (name : List ℕ) (v : Option A) (n : List ℕ) → (name ≡ n → P v) → P (old n)
+    → P (learns old name v n)
+learned P old name v n here there = learned-other P old name v n here (λ other. there)
 
 pub learned-here : {A : Type 0} (old : List ℕ → Option A) (name : List ℕ) (v : Option A) → learns old name v name ≡ v
 learned-here old name v = ap (λ b. if b then v else old name) ((bytes_eq-Decides name name).1 refl)
@@ -146,11 +150,11 @@ good-typed names ifaces name m good none ok = record {
   clash None k e h = absurd cc
   clash (Some b) k e h = absurd cc
 
-some-and : (P : ScopeIface → Type 0) (o : Option ScopeIface) → IsSomeAnd o P → (q : ScopeIface) × (o ≡ Some q) × P q
+pub some-and : (P : ScopeIface → Type 0) (o : Option ScopeIface) → IsSomeAnd o P → (q : ScopeIface) × (o ≡ Some q) × P q
 some-and P None h = absurd h
 some-and P (Some q) h = (q, refl, h)
 
-and-some : (P : ScopeIface → Type 0) (o : Option ScopeIface) (q : ScopeIface) → o ≡ Some q → P q → IsSomeAnd o P
+pub and-some : (P : ScopeIface → Type 0) (o : Option ScopeIface) (q : ScopeIface) → o ≡ Some q → P q → IsSomeAnd o P
 and-some P o q e h = subst (λ (p : Option ScopeIface). IsSomeAnd p P) (sym e) h
 
 -- what was defined stays defined
@@ -173,7 +177,10 @@ iface-kept old new number x placed marks i h = record {
   identifier = h.identifier;
   flags = h.flags;
   members = members-weaker (length old) (length new) placed.grows i.members h.members;
+  members_differ = h.members_differ;
+  natives_hidden = h.natives_hidden;
   extends = λ p e. defined-kept old new number x placed marks p (h.extends p e);
+  unidentified = h.unidentified;
   parentless = h.parentless;
   memberless = h.memberless;
 }

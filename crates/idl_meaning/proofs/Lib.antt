@@ -8,6 +8,7 @@ pub mod Identifiers
 pub mod Good
 pub mod AcceptedScope
 pub mod Identified
+pub mod Spotted
 pub mod Lawful
 pub mod Few
 pub mod WholeScope

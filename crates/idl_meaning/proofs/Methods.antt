@@ -1,19 +1,21 @@
 -- The parameters of a method without faults.
-use Rattle.std.proofs.Common.{◌≡◌, ℕ, zero, suc, Bool, true, false, not, ◌&&◌, ◌||◌, List, [], ◌∷◌, ◌++◌, length, Option, Some, None, refl, sym, ap, ◌∙◌, subst, if◌then◌else◌, option_and_then, find}
+use Rattle.std.proofs.Common.{◌≡◌, ℕ, zero, suc, Bool, true, false, not, ◌&&◌, ◌||◌, List, [], ◌∷◌, ◌++◌, length, Option, Some, None, refl, sym, ap, ◌∙◌, subst, if◌then◌else◌, option_and_then, find, true≢false}
 use Rattle.std.specs.Prelude.{slice_get, IsSomeAnd, is_some, is_none}
 use Rattle.std.specs.List.{list_any}
 use Rattle.std.specs.Str.{bytes_eq}
+use Rattle.std.proofs.lemmas.Slice.Eq.{bytes_eq-Decides}
 use Rattle.xp_base.specs.declared.kinds.Dir.{Dir}
 use Rattle.xp_base.specs.declared.kinds.Dir.TheVariants.{Inward, Outward, Both}
 use Rattle.idl_grammar.specs.declared.tree.ParamDecl.{ParamDecl}
 use Rattle.idl_grammar.specs.declared.tree.TypeName.{TypeName}
 use Rattle.idl_grammar.specs.declared.tree.TypeName.TheVariants as type
 use Rattle.idl_meaning.specs.declared.scope.Meant.{Meant}
+use Rattle.idl_meaning.specs.declared.scope.Meant.TheVariants as meant
 use Rattle.idl_meaning.specs.declared.scope.ScopeParam.{ScopeParam}
-use Rattle.idl_meaning.specs.Meaning.{Names, Bound, meaning_of, bound_sense, is_iid_ref, Sense, Unknown, Nothing, Means, sense, is_unknown, is_a, is_no, is_integer, is_iid, is_class}
+use Rattle.idl_meaning.specs.Meaning.{Names, Bound, learns, nothing, meaning_of, bound_sense, is_iid_ref, Sense, Unknown, Nothing, Means, sense, is_unknown, is_a, is_no, is_integer, is_string, is_iid, is_class, is_native, is_object}
 use Rattle.idl_meaning.specs.Scopes.{number_from, number_in, stands_for, result_of, param_made, params_made}
-use Rattle.idl_meaning.specs.Faults.{Place, numbered, when, applied, is_misnamed, is_array, size_name, length_name, iid_name, is_named, param_of, is_no_param, is_wrong_count, is_wrong_iid, is_mismeasured, is_wrong_array, is_retval, is_out, is_empty, any_wrong_retval, is_void_name}
-use Rattle.idl_meaning.specs.Accepted.{IsMeant, IsResult, IsSingle, Points, IsAcceptedParam, IsAcceptedMethod}
+use Rattle.idl_meaning.specs.Faults.{Place, numbered, when, applied, any_repeated, is_in, is_both, is_misdirected, is_optional, is_needed, any_gap, is_open_native, is_misnamed, is_array, size_name, length_name, iid_name, is_named, param_of, is_no_param, is_wrong_count, is_wrong_iid, is_mismeasured, is_wrong_array, is_retval, is_out, is_empty, any_wrong_retval, is_void_name}
+use Rattle.idl_meaning.specs.Accepted.{IsMeant, IsGiven, IsResult, IsSingle, Points, HaveNamesOnce, IsAcceptedParam, IsAcceptedMethod, ShowsNoNative}
 use Rattle.idl_meaning.proofs.Among.{later, later-from_zero}
 
 -- ---- tests
@@ -146,6 +148,21 @@ iid-right names named p (Some v) e w is =
     let same : v ≡ w = cc in
     subst (λ (u : List ℕ). is_no_param is_iid names (named u) ≡ false) same (or_right _ (is_no_param is_iid names (named v)) e)
 
+-- a size or a length stands on an array or a string
+count-fits : (names : Names) (named : List ℕ → Option ParamDecl) (numbers : List ℕ → Option ℕ) (p : ParamDecl) (o : Option (List ℕ)) → is_misnamed names p ≡ false
+    → is_wrong_count names named p o ≡ false → is_some (option_and_then numbers o) ≡ true → (is_array p || is_string (stands_for (sense names p.of))) ≡ true
+count-fits names named numbers p None known e h = absurd cc
+count-fits names named numbers p (Some w) known e h = go (is_array p) (or_left (not (is_array p) && is_no is_string (sense names p.of)) (is_no_param is_integer names (named w)) e) where
+  go : (array : Bool) → (not array && is_no is_string (sense names p.of)) ≡ false → (array || is_string (stands_for (sense names p.of))) ≡ true
+  go true e = refl
+  go false e = passes is_string (sense names p.of) known e
+
+-- an identifier stands on an interface or a plain native
+iid-fits : (names : Names) (named : List ℕ → Option ParamDecl) (numbers : List ℕ → Option ℕ) (p : ParamDecl) (o : Option (List ℕ)) → is_misnamed names p ≡ false
+    → is_wrong_iid names named p o ≡ false → is_some (option_and_then numbers o) ≡ true → is_object (stands_for (sense names p.of)) ≡ true
+iid-fits names named numbers p None known e h = absurd cc
+iid-fits names named numbers p (Some w) known e h = passes is_object (sense names p.of) known (or_left (is_no is_object (sense names p.of)) (is_no_param is_iid names (named w)) e)
+
 -- where there is a number, there was a name
 number-named : (numbers : List ℕ → Option ℕ) (o : Option (List ℕ)) → is_some (option_and_then numbers o) ≡ true → is_some o ≡ true
 number-named numbers None e = e
@@ -156,10 +173,17 @@ number-named numbers (Some w) e = refl
 abbrev pub AreMeant : ℕ → Names → Type 0
 AreMeant count names = (name : List ℕ) (b : Bound) → names name ≡ Some b → IsMeant count (meaning_of b)
 
-class-no : (s : Sense) → is_a is_class s ≡ false → is_class (stands_for s) ≡ false
-class-no Unknown e = refl
-class-no Nothing e = refl
-class-no (Means m) e = e
+-- what a type stands for passes a test where the type does
+pub stands-as : (test : Meant → Bool) → test meant.JsVal ≡ false → (s : Sense) → test (stands_for s) ≡ is_a test s
+stands-as test js Unknown = js
+stands-as test js Nothing = js
+stands-as test js (Means m) = refl
+
+-- so does a value that is given back
+gives-as : (test : Meant → Bool) → test meant.JsVal ≡ false → (s : Sense) → is_a test s ≡ false → (m : Meant) → result_of s ≡ Some m → test m ≡ false
+gives-as test js Unknown e m is = let same : meant.JsVal ≡ m = cc in subst (λ (n : Meant). test n ≡ false) same js
+gives-as test js Nothing e m is = absurd cc
+gives-as test js (Means n) e m is = let same : n ≡ m = cc in subst (λ (x : Meant). test x ≡ false) same e
 
 module _ (count : ℕ) (names : Names) (good : AreMeant count names) where
   bound-meant : (name : List ℕ) (o : Option Bound) → names name ≡ o → IsMeant count (stands_for (bound_sense o))
@@ -184,13 +208,79 @@ module _ (count : ℕ) (names : Names) (good : AreMeant count names) where
   stands-meant type.WString = refl
   stands-meant (type.Named name) = bound-meant name (names name) refl
 
-  result-is : (s : Sense) → IsMeant count (stands_for s) → IsResult count (result_of s)
+  -- 7: no reference is given back
+  pub stands-given : (of : TypeName) → is_a is_iid_ref (sense names of) ≡ false → IsGiven count (stands_for (sense names of))
+  stands-given of e = record { typed = stands-meant of; no_reference = stands-as is_iid_ref refl (sense names of) ∙ e }
+
+  result-is : (s : Sense) → IsGiven count (stands_for s) → IsResult count (result_of s)
   result-is Unknown h = h
   result-is Nothing h = tt
   result-is (Means m) h = h
 
-  pub result-meant : (of : TypeName) → IsResult count (result_of (sense names of))
-  result-meant of = result-is (sense names of) (stands-meant of)
+  pub result-given : (of : TypeName) → is_a is_iid_ref (sense names of) ≡ false → IsResult count (result_of (sense names of))
+  result-given of e = result-is (sense names of) (stands-given of e)
+
+-- ---- 1: names
+
+-- a name that is not known behind another was not known before it, and is not that one
+pub unlearned : {A : Type 0} (old : List ℕ → Option A) (name : List ℕ) (v : A) (n : List ℕ) → is_some (learns old name (Some v) n) ≡ false
+    → (name ≡ n → ⊥) × (is_some (old n) ≡ false)
+unlearned {A} old name v n = go (bytes_eq name n) refl where
+  go : (b : Bool) → bytes_eq name n ≡ b → is_some (if b then Some v else old n) ≡ false → (name ≡ n → ⊥) × (is_some (old n) ≡ false)
+  go true is e = absurd cc
+  go false is e = ((λ same. true≢false (sym ((bytes_eq-Decides name n).1 same) ∙ is)), e)
+
+-- no parameter has a name that is known before them
+fresh : (before : List ℕ → Option ℕ) (ps : List ParamDecl) (k : ℕ) (p : ParamDecl) → any_repeated before ps ≡ false → slice_get ps k ≡ Some p → is_some (before p.name) ≡ false
+fresh before [] k p e at = absurd cc
+fresh before (q ∷ ps) zero p e at =
+    let same : q ≡ p = cc in
+    subst (λ (x : ParamDecl). is_some (before x.name) ≡ false) same (or_left (is_some (before q.name)) (any_repeated (learns before q.name (Some 0)) ps) e)
+fresh before (q ∷ ps) (suc k) p e at =
+    (unlearned before q.name 0 p.name
+    (fresh (learns before q.name (Some 0)) ps k p (or_right (is_some (before q.name)) (any_repeated (learns before q.name (Some 0)) ps) e) at)).1
+
+second : (before : List ℕ → Option ℕ) (q : ParamDecl) (ps : List ParamDecl) (k : ℕ) (p : ParamDecl) → any_repeated before (q ∷ ps) ≡ false → slice_get ps k ≡ Some p → q.name ≡ p.name → ⊥
+second before q ps k p e at =
+    (unlearned before q.name 0 p.name
+    (fresh (learns before q.name (Some 0)) ps k p (or_right (is_some (before q.name)) (any_repeated (learns before q.name (Some 0)) ps) e) at)).0
+
+names-differ : (before : List ℕ → Option ℕ) (ps : List ParamDecl) → any_repeated before ps ≡ false → HaveNamesOnce (λ (p : ParamDecl). p.name) ps
+names-differ before [] e j k a b at there same = absurd cc
+names-differ before (q ∷ ps) e zero zero a b at there same = refl
+names-differ before (q ∷ ps) e zero (suc k) a b at there same = absurd (second before q ps k b e there (let first : q ≡ a = cc in ap (λ (x : ParamDecl). x.name) first ∙ same))
+names-differ before (q ∷ ps) e (suc j) zero a b at there same = absurd (second before q ps j a e at (let first : q ≡ b = cc in ap (λ (x : ParamDecl). x.name) first ∙ sym same))
+names-differ before (q ∷ ps) e (suc j) (suc k) a b at there same =
+    ap suc (names-differ (learns before q.name (Some 0)) ps (or_right (is_some (before q.name)) (any_repeated (learns before q.name (Some 0)) ps) e) j k a b at there same)
+
+-- ---- 13: an `optional` parameter
+
+one-of : (a b : Bool) → (not a && not b) ≡ false → (a || b) ≡ true
+one-of true b e = refl
+one-of false true e = refl
+one-of false false e = absurd cc
+
+not-needed : (ps : List ParamDecl) (q : ParamDecl) → slice_get ps zero ≡ Some q → is_needed ps ≡ false → (is_optional q || is_retval q) ≡ true
+not-needed [] q at e = absurd cc
+not-needed (p ∷ ps) q at e =
+    let same : p ≡ q = cc in
+    subst (λ (x : ParamDecl). (is_optional x || is_retval x) ≡ true) same (one-of (is_optional p) (is_retval p) e)
+
+gap-filled : (ps : List ParamDecl) (k : ℕ) (p q : ParamDecl) → any_gap ps ≡ false → slice_get ps k ≡ Some p → slice_get ps (suc k) ≡ Some q → is_optional p ≡ true
+    → (is_optional q || is_retval q) ≡ true
+gap-filled [] k p q e at next h = absurd cc
+gap-filled (x ∷ more) zero p q e at next h =
+    let same : x ≡ p = cc in
+    not-needed more q next
+    (and_false (is_optional x) (is_needed more) (or_left (is_optional x && is_needed more) (any_gap more) e) (subst (λ (y : ParamDecl). is_optional y ≡ true) (sym same) h))
+gap-filled (x ∷ more) (suc k) p q e at next h = gap-filled more k p q (or_right (is_optional x && is_needed more) (any_gap more) e) at next h
+
+-- ---- 7: directions
+
+in-is : (d : Dir) → not (is_in d) ≡ false → d ≡ Inward
+in-is Inward e = refl
+in-is Outward e = absurd cc
+in-is Both e = absurd cc
 
 -- ---- 12: a `retval`
 
@@ -225,24 +315,34 @@ void-gives names _ e = absurd cc
 -- ---- a parameter, and a method
 
 module _ (count : ℕ) (names : Names) (good : AreMeant count names) (ps : List ParamDecl) (known : list_any (is_misnamed names) ps ≡ false) where
-  pub param-accepted : (p : ParamDecl) → is_mismeasured names (param_of ps) p ≡ false → is_wrong_array names p ≡ false
+  pub param-accepted : (p : ParamDecl) → is_misnamed names p ≡ false → is_misdirected names p ≡ false → is_mismeasured names (param_of ps) p ≡ false → is_wrong_array names p ≡ false
       → IsAcceptedParam count (params_made names (number_in ps) ps) (param_made names (number_in ps) p)
-  param-accepted p e8 e9 =
+  param-accepted p e2 e7 e8 e9 =
       let named = param_of ps in
+      let s = sense names p.of in
       let abc = or_left (is_wrong_count names named p (size_name p) || is_wrong_count names named p (length_name p) || is_some (length_name p) && is_none (size_name p)) (is_wrong_iid names named p (iid_name p)) e8 in
       let ab = or_left (is_wrong_count names named p (size_name p) || is_wrong_count names named p (length_name p)) (is_some (length_name p) && is_none (size_name p)) abc in
-      let size = count-right names named p (size_name p) (or_left (is_wrong_count names named p (size_name p)) (is_wrong_count names named p (length_name p)) ab) in
+      let size_right = or_left (is_wrong_count names named p (size_name p)) (is_wrong_count names named p (length_name p)) ab in
+      let size = count-right names named p (size_name p) size_right in
       let measure = count-right names named p (length_name p) (or_right (is_wrong_count names named p (size_name p)) (is_wrong_count names named p (length_name p)) ab) in
       let beside = or_right (is_wrong_count names named p (size_name p) || is_wrong_count names named p (length_name p)) (is_some (length_name p) && is_none (size_name p)) abc in
-      let identify = iid-right names named p (iid_name p) (or_right (is_wrong_count names named p (size_name p) || is_wrong_count names named p (length_name p) || is_some (length_name p) && is_none (size_name p)) (is_wrong_iid names named p (iid_name p)) e8) in
+      let iid_is_right = or_right (is_wrong_count names named p (size_name p) || is_wrong_count names named p (length_name p) || is_some (length_name p) && is_none (size_name p)) (is_wrong_iid names named p (iid_name p)) e8 in
+      let identify = iid-right names named p (iid_name p) iid_is_right in
       record {
         typed = stands-meant count names good p.of;
+        reference_in = λ h.
+            in-is p.dir
+            (and_false (is_a is_iid_ref s) (not (is_in p.dir)) (or_left (is_a is_iid_ref s && not (is_in p.dir)) (is_a is_class s && is_both p.dir) e7) (sym (stands-as is_iid_ref refl s) ∙ h));
+        class_one_way = λ h.
+            and_false (is_a is_class s) (is_both p.dir) (or_right (is_a is_iid_ref s && not (is_in p.dir)) (is_a is_class s && is_both p.dir) e7) (sym (stands-as is_class refl s) ∙ h);
         sized = points is_integer names ps known (size_name p) size;
+        size_fits = count-fits names named (number_in ps) p (size_name p) e2 size_right;
         measured = points is_integer names ps known (length_name p) measure;
         beside_size = λ h.
             has-number is_integer names ps known (size_name p) size
             (not_false (is_some (size_name p)) (and_false (is_some (length_name p)) (is_none (size_name p)) beside (number-named (number_in ps) (length_name p) h)));
         identified = points is_iid names ps known (iid_name p) identify;
+        iid_fits = iid-fits names named (number_in ps) p (iid_name p) e2 iid_is_right;
         array_sized = λ h.
             has-number is_integer names ps known (size_name p) size
             (not_false (is_some (size_name p))
@@ -250,22 +350,39 @@ module _ (count : ℕ) (names : Names) (good : AreMeant count names) (ps : List 
             (or_left (is_none (size_name p) || is_a is_class (sense names p.of)) (is_a is_iid_ref (sense names p.of))
             (and_false (is_array p) (is_none (size_name p) || is_a is_class (sense names p.of) || is_a is_iid_ref (sense names p.of)) e9 h))));
         array_plain = λ h.
-            class-no (sense names p.of)
-            (or_right (is_none (size_name p)) (is_a is_class (sense names p.of))
-            (or_left (is_none (size_name p) || is_a is_class (sense names p.of)) (is_a is_iid_ref (sense names p.of))
-            (and_false (is_array p) (is_none (size_name p) || is_a is_class (sense names p.of) || is_a is_iid_ref (sense names p.of)) e9 h)));
+            stands-as is_class refl s
+            ∙ or_right (is_none (size_name p)) (is_a is_class s)
+            (or_left (is_none (size_name p) || is_a is_class s) (is_a is_iid_ref s)
+            (and_false (is_array p) (is_none (size_name p) || is_a is_class s || is_a is_iid_ref s) e9 h));
+        array_no_reference = λ h.
+            stands-as is_iid_ref refl s
+            ∙ or_right (is_none (size_name p) || is_a is_class s) (is_a is_iid_ref s)
+            (and_false (is_array p) (is_none (size_name p) || is_a is_class s || is_a is_iid_ref s) e9 h);
       }
 
-  pub method-accepted : (of : TypeName) → list_any (is_mismeasured names (param_of ps)) ps ≡ false → list_any (is_wrong_array names) ps ≡ false
-      → any_wrong_retval (not (is_void_name of)) ps ≡ false → IsAcceptedMethod count (result_of (sense names of)) (params_made names (number_in ps) ps)
-  method-accepted of e8 e9 e12 =
+  pub method-accepted : (of : TypeName) → any_repeated nothing ps ≡ false → (is_a is_iid_ref (sense names of) || list_any (is_misdirected names) ps) ≡ false
+      → list_any (is_mismeasured names (param_of ps)) ps ≡ false → list_any (is_wrong_array names) ps ≡ false
+      → any_wrong_retval (not (is_void_name of)) ps ≡ false → any_gap ps ≡ false → IsAcceptedMethod count (result_of (sense names of)) (params_made names (number_in ps) ps)
+  method-accepted of e1 e7 e8 e9 e12 e13 =
       let from = made-from names (number_in ps) ps in
       record {
-        returned = result-meant count names good of;
+        returned = result-given count names good of (or_left (is_a is_iid_ref (sense names of)) (list_any (is_misdirected names) ps) e7);
         each = λ k m at.
             let r = from k m at in
             subst (λ (x : ScopeParam). IsAcceptedParam count (params_made names (number_in ps) ps) x) r.2
-            (param-accepted r.0 (none_of (is_mismeasured names (param_of ps)) ps k r.0 e8 r.1) (none_of (is_wrong_array names) ps k r.0 e9 r.1));
+            (param-accepted r.0 (none_of (is_misnamed names) ps k r.0 known r.1)
+            (none_of (is_misdirected names) ps k r.0 (or_right (is_a is_iid_ref (sense names of)) (list_any (is_misdirected names) ps) e7) r.1)
+            (none_of (is_mismeasured names (param_of ps)) ps k r.0 e8 r.1) (none_of (is_wrong_array names) ps k r.0 e9 r.1));
+        params_differ = λ j k a b at there same.
+            let r = from j a at in
+            let t = from k b there in
+            names-differ nothing ps e1 j k r.0 t.0 r.1 t.1
+            (ap (λ (x : ScopeParam). x.name) r.2 ∙ same ∙ sym (ap (λ (x : ScopeParam). x.name) t.2));
+        no_gap = λ k a b at next h.
+            let r = from k a at in
+            let t = from (suc k) b next in
+            subst (λ (x : ScopeParam). (x.optional || x.retval) ≡ true) t.2
+            (gap-filled ps k r.0 t.0 e13 r.1 t.1 (subst (λ (x : ScopeParam). x.optional ≡ true) (sym r.2) h));
         last = λ k m at h.
             let r = from k m at in
             (retval-right (not (is_void_name of)) ps k r.0 e12 r.1 (subst (λ (x : ScopeParam). x.retval ≡ true) (sym r.2) h)).2
@@ -279,3 +396,21 @@ module _ (count : ℕ) (names : Names) (good : AreMeant count names) (ps : List 
             void-gives names of
             (not_false (is_void_name of) (retval-right (not (is_void_name of)) ps k r.0 e12 r.1 (subst (λ (x : ScopeParam). x.retval ≡ true) (sym r.2) h)).0);
       }
+
+  -- 14: no plain native is shown
+  pub shows-none : (of : TypeName) → list_any (is_mismeasured names (param_of ps)) ps ≡ false
+      → (is_a is_native (sense names of) || list_any (is_open_native names) ps) ≡ false → ShowsNoNative (result_of (sense names of)) (params_made names (number_in ps) ps)
+  shows-none of e8 e14 = record {
+    gives_none = gives-as is_native refl (sense names of) (or_left (is_a is_native (sense names of)) (list_any (is_open_native names) ps) e14);
+    takes_none = λ k m at h.
+        let r = made-from names (number_in ps) ps k m at in
+        let p = r.0 in
+        let bare = none_of (is_open_native names) ps k p (or_right (is_a is_native (sense names of)) (list_any (is_open_native names) ps) e14) r.1 in
+        let native : is_native (stands_for (sense names p.of)) ≡ true = subst (λ (x : ScopeParam). is_native x.ty ≡ true) (sym r.2) h in
+        let measured = none_of (is_mismeasured names (param_of ps)) ps k p e8 r.1 in
+        let right = iid-right names (param_of ps) p (iid_name p)
+        (or_right (is_wrong_count names (param_of ps) p (size_name p) || is_wrong_count names (param_of ps) p (length_name p) || is_some (length_name p) && is_none (size_name p)) (is_wrong_iid names (param_of ps) p (iid_name p)) measured) in
+        subst (λ (x : ScopeParam). is_some x.iid ≡ true) r.2
+        (has-number is_iid names ps known (iid_name p) right
+        (not_false (is_some (iid_name p)) (and_false (is_a is_native (sense names p.of)) (is_none (iid_name p)) bare (sym (stands-as is_native refl (sense names p.of)) ∙ native))));
+  }

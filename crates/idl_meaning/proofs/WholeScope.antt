@@ -10,6 +10,7 @@ use Rattle.idl_meaning.specs.Accepted.{AreNamedOnce, IsAcceptedScope}
 use Rattle.idl_meaning.proofs.Good.{as_iface, IsGood}
 use Rattle.idl_meaning.proofs.AcceptedScope.{files-good, nothing-good}
 use Rattle.idl_meaning.proofs.Identified.{identified-once}
+use Rattle.idl_meaning.proofs.Spotted.{none-circles, scope-placed}
 use Rattle.idl_meaning.proofs.Few.{scope-few}
 use Rattle.idl_meaning.proofs.Lawful.{scope-lawful}
 
@@ -24,6 +25,7 @@ pub scope-accepted : (files : List ClosedFile) → AreLawfulFiles files → item
     → faults_of files ≡ [] → IsAcceptedScope (scope_of files)
 scope-accepted files lawful counted none =
     let good = files-good files 0 nothing_known nothing-good none in
+    let places = scope-placed files none in
     record {
       few = let declared = scope-few files in omega arith;
       each = good.each;
@@ -31,4 +33,7 @@ scope-accepted files lawful counted none =
       named_once = once (after_files 0 nothing_known files).names
           (after_files 0 nothing_known files).ifaces good;
       identified_once = identified-once files none;
+      apart = places.apart;
+      parents_first = places.parents_first;
+      no_circle = none-circles (after_files 0 nothing_known files).ifaces places.parents_first;
     }

@@ -28,7 +28,7 @@ known count (meant.Native name) h = tt
 
 known_if : (count : ℕ) (o : Option Meant) → IsResult count o → IfSome o (IsKnown count)
 known_if count None h = tt
-known_if count (Some m) h = known count m h
+known_if count (Some m) h = known count m h.typed
 
 small : (test : Meant → Bool) (params : List ScopeParam) → length params ≤ 255 → (o : Option ℕ)
     → Points test params o → IsSmall o
@@ -48,7 +48,7 @@ body_sayable : (count : ℕ) (name : List ℕ) (b : ScopeBody) → IsAcceptedBod
     → list_any is_wide_slot (slots_in name b) ≡ false → IsSayableBody count b
 body_sayable count name (body.Constant of value) ok narrow = tt
 body_sayable count name (body.Attribute hidden notxpcom context readonly ty) ok narrow =
-    known count ty ok
+    known count ty ok.typed
 body_sayable count name (body.Method hidden notxpcom argc context returns params) ok narrow =
     let all : length (params ++ given notxpcom returns) ≤ 255 =
     ltb-false 255 (length (params ++ given notxpcom returns))

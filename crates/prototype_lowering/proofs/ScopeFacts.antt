@@ -1,5 +1,5 @@
 -- What is true of the slots of an accepted scope.
-use Rattle.std.proofs.Common.{◌≡◌, ℕ, zero, suc, Bool, true, false, List, [], ◌∷◌, ◌++◌, length, Option, Some, None, IsSomeAnd, IsTrue, is_some, slice_get, refl, sym, ap, subst, arith, true≢false, All, if◌then◌else◌}
+use Rattle.std.proofs.Common.{◌≡◌, ℕ, zero, suc, Bool, true, false, List, [], ◌∷◌, ◌++◌, length, Option, Some, None, IsSomeAnd, IsTrue, is_some, slice_get, refl, sym, ap, ◌∙◌, subst, arith, true≢false, All, if◌then◌else◌}
 use Rattle.std.specs.List.{AllByRecursion, cons_option, filter_map, flat_map}
 use Rattle.std.proofs.lemmas.List.{append-nil}
 use Rattle.idl_meaning.specs.declared.scope.Meant.{Meant}
@@ -9,7 +9,7 @@ use Rattle.idl_meaning.specs.declared.scope.ScopeIface.{ScopeIface}
 use Rattle.idl_meaning.specs.declared.scope.ScopeMember.{ScopeMember}
 use Rattle.idl_meaning.specs.declared.scope.ScopeParam.{ScopeParam}
 use Rattle.idl_meaning.specs.declared.scope.Scope.{Scope}
-use Rattle.idl_meaning.specs.Accepted.{AreAcceptedMembers, IsAcceptedBody, IsAcceptedIface, IsAcceptedMethod, IsAcceptedParam, IsAcceptedScope, IsLawfulIface, IsMeant, IsResult, IsSingle, Points}
+use Rattle.idl_meaning.specs.Accepted.{AreAcceptedMembers, IsAcceptedBody, IsAcceptedIface, IsAcceptedMethod, IsAcceptedParam, IsAcceptedScope, IsGiven, IsLawfulIface, IsResult, IsSingle, Points}
 use Rattle.idl_meaning.specs.Meaning.{is_iid, is_integer}
 use Rattle.lib_model.specs.Valid.{IsName}
 use Rattle.vtable_layout.specs.Slots.{Slot, given, getter, given_param, method, own_slots, setter, slots_in, slots_of_member, value_param}
@@ -53,36 +53,51 @@ param_kept : (count : ℕ) (xs ys : List ScopeParam) (p : ScopeParam) → IsAcce
     → IsAcceptedParam count (xs ++ ys) p
 param_kept count xs ys p ok = record {
   typed = ok.typed;
+  reference_in = ok.reference_in;
+  class_one_way = ok.class_one_way;
   sized = named_kept is_integer xs ys p.size ok.sized;
+  size_fits = ok.size_fits;
   measured = named_kept is_integer xs ys p.length ok.measured;
   beside_size = ok.beside_size;
   identified = named_kept is_iid xs ys p.iid ok.identified;
+  iid_fits = ok.iid_fits;
   array_sized = ok.array_sized;
   array_plain = ok.array_plain;
+  array_no_reference = ok.array_no_reference;
 }
 
-given_ok : (count : ℕ) (params : List ScopeParam) (ty : Meant) → IsMeant count ty
+given_ok : (count : ℕ) (params : List ScopeParam) (ty : Meant) → IsGiven count ty
     → IsAcceptedParam count params (given_param ty)
 given_ok count params ty h = record {
-  typed = h;
+  typed = h.typed;
+  reference_in = λ a. absurd (true≢false (sym a ∙ h.no_reference));
+  class_one_way = λ a. refl;
   sized = tt;
+  size_fits = λ a. absurd (true≢false (sym a));
   measured = tt;
   beside_size = λ a. a;
   identified = tt;
+  iid_fits = λ a. absurd (true≢false (sym a));
   array_sized = λ a. absurd (true≢false (sym a));
   array_plain = λ a. absurd (true≢false (sym a));
+  array_no_reference = λ a. absurd (true≢false (sym a));
 }
 
-value_ok : (count : ℕ) (params : List ScopeParam) (name : List ℕ) (ty : Meant) → IsMeant count ty
+value_ok : (count : ℕ) (params : List ScopeParam) (name : List ℕ) (ty : Meant) → IsGiven count ty
     → IsAcceptedParam count params (value_param name ty)
 value_ok count params name ty h = record {
-  typed = h;
+  typed = h.typed;
+  reference_in = λ a. refl;
+  class_one_way = λ a. refl;
   sized = tt;
+  size_fits = λ a. absurd (true≢false (sym a));
   measured = tt;
   beside_size = λ a. a;
   identified = tt;
+  iid_fits = λ a. absurd (true≢false (sym a));
   array_sized = λ a. absurd (true≢false (sym a));
   array_plain = λ a. absurd (true≢false (sym a));
+  array_no_reference = λ a. absurd (true≢false (sym a));
 }
 
 -- ---- the value
@@ -163,7 +178,7 @@ pub member_ok : (count : ℕ) (m : ScopeMember) → IsName m.name → IsAccepted
     → AllByRecursion (IsAcceptedSlot count) (slots_of_member m)
 member_ok count m word ok = go m.body ok
   where
-    getter_ok : (hidden notxpcom context : Bool) (ty : Meant) → IsMeant count ty
+    getter_ok : (hidden notxpcom context : Bool) (ty : Meant) → IsGiven count ty
         → IsAcceptedSlot count (getter m.name hidden notxpcom context ty)
     getter_ok hidden notxpcom context ty h =
         record {
@@ -174,7 +189,7 @@ member_ok count m word ok = go m.body ok
               given_last [] notxpcom (Some ty) tt;
         }
 
-    setter_ok : (hidden notxpcom context : Bool) (ty : Meant) → IsMeant count ty
+    setter_ok : (hidden notxpcom context : Bool) (ty : Meant) → IsGiven count ty
         → IsAcceptedSlot count (setter m.name hidden notxpcom context ty)
     setter_ok hidden notxpcom context ty h =
         record {
@@ -185,7 +200,7 @@ member_ok count m word ok = go m.body ok
               ((λ is. (refl, refl)), tt);
         }
 
-    setters : (readonly hidden notxpcom context : Bool) (ty : Meant) → IsMeant count ty
+    setters : (readonly hidden notxpcom context : Bool) (ty : Meant) → IsGiven count ty
         → AllByRecursion (IsAcceptedSlot count)
         (if readonly then [] else (setter m.name hidden notxpcom context ty ∷ []))
     setters true hidden notxpcom context ty h = tt
@@ -222,9 +237,9 @@ sound_at s ok k i is = record { accepted = ok.each k i is; lawful = ok.lawful k 
 pub members_named : (i : ScopeIface) → IsLawfulIface i
     → AllByRecursion (λ m. IsName m.name) i.members
 members_named i ok = by_each (λ m. IsName m.name) i.members (λ k m is. record {
-  present = (ok.members_named k m is).present;
-  short = (ok.members_named k m is).short;
-  no_zero = (ok.members_named k m is).no_zero;
+  present = (ok.members_named k m is).text.present;
+  short = (ok.members_named k m is).text.short;
+  no_zero = (ok.members_named k m is).text.no_zero;
 })
 
 pub iface_ok : (ifaces : List ScopeIface) (i : ScopeIface) → IsSoundIface ifaces i

@@ -610,10 +610,10 @@ module _ (s : Scope) (ok : IsAcceptedScope s) where
       (iface_of (directory_of s.ifaces) i)
   iface_valid i sound narrow few = record {
     name = record {
-      present = sound.lawful.named.present;
-      short = sound.lawful.named.short;
+      present = sound.lawful.named.text.present;
+      short = sound.lawful.named.text.short;
       no_zero =
-          sound.lawful.named.no_zero;
+          sound.lawful.named.text.no_zero;
     };
     namespace = tt;
     iid = iid_long i.defined;

@@ -4,3 +4,4 @@ pub mod StaticTable
 pub mod Limits
 pub mod Numbering
 pub mod Marked
+pub mod Accepted

@@ -9,7 +9,8 @@ use Rattle.idl_meaning.specs.Scopes.{scope_of}
 use Rattle.vtable_layout.specs.Layout.{IsFirstTooMany}
 use Rattle.prototype_lowering.specs.Limits.{IsFirstWide, KeepsLimits, NoneIsWide, is_wide_at}
 use Rattle.xpcall_run.specs.declared.failures.Refusal.{Refusal}
-use Rattle.xpcall_run.specs.CompileWork.{HasFewSlots, IsAccepted, IsFaultless, RefusesCounts, RefusesFaults, RefusesLibrary, RefusesMeaning, RefusesShape, RefusesSlots, RefusesWidth, WritesLibrary, compile_work, ifaces_in, library_work, refused_at}
+use Rattle.prototype_lowering.specs.Accepted.{IsAccepted, IsFaultless, ifaces_in}
+use Rattle.xpcall_run.specs.CompileWork.{HasFewSlots, RefusesCounts, RefusesFaults, RefusesLibrary, RefusesMeaning, RefusesShape, RefusesSlots, RefusesWidth, WritesLibrary, compile_work, library_work, refused_at}
 use Rattle.xpcall_run.proofs.ClosureLaws.{closes_single}
 use Rattle.xpcall_run.specs.Works.{Quietly}
 use Rattle.xpcall_run.proofs.Outcomes.{IsSingle, Single, quiet_single, settles_single}

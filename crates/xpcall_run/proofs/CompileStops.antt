@@ -9,7 +9,8 @@ use Rattle.idl_meaning.specs.Scopes.{scope_of}
 use Rattle.vtable_layout.specs.Layout.{IsFirstTooMany}
 use Rattle.prototype_lowering.specs.Limits.{IsFirstWide}
 use Rattle.xpcall_run.specs.declared.failures.Failure.{Failure}
-use Rattle.xpcall_run.specs.CompileWork.{HasFewSlots, IsFaultless, RefusesFaults, RefusesLibrary, RefusesMeaning, RefusesSlots, RefusesWidth, refused_at}
+use Rattle.prototype_lowering.specs.Accepted.{IsFaultless}
+use Rattle.xpcall_run.specs.CompileWork.{HasFewSlots, RefusesFaults, RefusesLibrary, RefusesMeaning, RefusesSlots, RefusesWidth, refused_at}
 use Rattle.xpcall_run.specs.Endings.{IsRefused}
 use Rattle.xpcall_run.proofs.Fetching.{refused_as}
 

@@ -11,7 +11,8 @@ use Rattle.xpcall_run.specs.declared.commands.Command.{Command}
 use Rattle.xpcall_run.specs.declared.commands.Command.TheVariants.{Big, Call, Compile, Dump}
 use Rattle.xpcall_run.specs.Commands.{work_of}
 use Rattle.xpcall_run.specs.CallWork.{calls_given}
-use Rattle.xpcall_run.specs.CompileWork.{library_in, library_work}
+use Rattle.prototype_lowering.specs.Accepted.{library_in}
+use Rattle.xpcall_run.specs.CompileWork.{library_work}
 use Rattle.xpcall_run.specs.Headline.{IsKnown}
 use Rattle.xpcall_run.specs.Joined.{CallOf, CompileOf, IsCallOf, IsCompileOf, static_given, typelib_given}
 use Rattle.xpcall_run.specs.Works.{Written}

@@ -13,10 +13,9 @@ use Rattle.idl_meaning.specs.declared.scope.ScopeMember.{ScopeMember}
 use Rattle.idl_meaning.specs.Faults.{Fault, faults_of, first}
 use Rattle.idl_meaning.specs.Scopes.{scope_of}
 use Rattle.vtable_layout.specs.Layout.{IsFirstTooMany, has_too_many}
+use Rattle.prototype_lowering.specs.Accepted.{IsAccepted, IsFaultless, ifaces_in, library_in}
 use Rattle.prototype_lowering.specs.Limits.{HasManyInterfaces, HasManyItems, IsFirstWide, KeepsLimits}
-use Rattle.prototype_lowering.specs.Lowering.{library_of}
 use Rattle.prototype_lowering.specs.StaticTable.{static_table}
-use Rattle.lib_model.specs.declared.contents.Library.{Library}
 use Rattle.lib_model.specs.Denotes.{Denotes}
 use Rattle.lib_model.specs.Emit.{emit}
 use Rattle.lib_model.specs.Table.{table_of}
@@ -27,24 +26,6 @@ use Rattle.xpcall_run.specs.ClosureWork.{closes}
 use Rattle.xpcall_run.specs.Works.{Work, Quietly, settles}
 
 -- ---- what is written
-
--- the library of what the files declare, and the interfaces that they do
-abbrev pub library_in : List ClosedFile → Library
-library_in files = library_of (scope_of files)
-
-abbrev pub ifaces_in : List ClosedFile → List ScopeIface
-ifaces_in files = (scope_of files).ifaces
-
--- no condition of the codes 1 to 14 holds at any place
-abbrev pub IsFaultless : List ClosedFile → Type 0
-IsFaultless files = faults_of files ≡ []
-
--- The files are accepted: they are without faults, a typelib has room for what they declare, and it
--- is no longer than a typelib may be.
-pub record IsAccepted (files : List ClosedFile) : Type 0 where
-  pub faultless : IsFaultless files
-  pub roomy : KeepsLimits (scope_of files)
-  pub short : length (emit (library_in files)) ≤ MAX_TYPELIB
 
 -- the files are accepted, and the text is what is emitted for their library
 pub record WritesLibrary (files : List ClosedFile) (text : List ℕ) : Type 0 where

@@ -14,7 +14,7 @@ use Rattle.prototype_lowering.specs.StaticTable.{static_table}
 use Rattle.xpcall_run.specs.declared.commands.Command.{Command}
 use Rattle.xpcall_run.specs.declared.commands.Command.TheVariants.{Call, Compile}
 use Rattle.xpcall_run.specs.CallWork.{HasBoth, calls_given}
-use Rattle.xpcall_run.specs.CompileWork.{IsAccepted, library_in}
+use Rattle.prototype_lowering.specs.Accepted.{IsAccepted, library_in}
 use Rattle.xpcall_run.specs.Sides.{Given, text_alone}
 
 -- ---- compiles
