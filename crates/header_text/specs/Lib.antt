@@ -1,0 +1,5 @@
+pub mod Types
+pub mod Order
+pub mod Header
+pub mod Meaning
+pub mod PlacesText

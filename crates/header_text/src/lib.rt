@@ -1,0 +1,8 @@
+//! The header of a scope: C++ declarations of its interfaces, and where the arguments of declared
+//! functions are passed.
+#![tactic(auto)]
+
+mod arguments;
+mod errors;
+
+pub use errors::HeaderWriteError;
