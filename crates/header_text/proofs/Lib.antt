@@ -1,3 +1,6 @@
 pub mod Said
 pub mod NameLaws
+pub mod TypeLaws
+pub mod ArgumentLaws
+pub mod FormLaws
 pub mod StepLaws
