@@ -66,10 +66,10 @@ each-append (w ∷ ws) vs (x ∷ xs) ys one two = (one.0, each-append ws vs xs y
 -- ---- slots
 
 -- what is known of a slot: its name, and its parameters
-record IsToldSlot (ifaces : List ScopeIface) (s : Slot) : Type 0 where
-  named : IsNameOf 255 s.name
-  params : AllByRecursion (IsTold ifaces s.kind) s.params
-  narrow : length s.params ≤ 255
+pub record IsToldSlot (ifaces : List ScopeIface) (s : Slot) : Type 0 where
+  pub named : IsNameOf 255 s.name
+  pub params : AllByRecursion (IsTold ifaces s.kind) s.params
+  pub narrow : length s.params ≤ 255
 
 slot-form : (ifaces : List ScopeIface) (n : ℕ) (s : Slot) (st : Status) → AreNames ifaces → n < 260 → IsToldSlot ifaces s
     → IsForm (line_by st ifaces (n, s)) (said_by st ifaces (n, s))
@@ -89,11 +89,11 @@ slots-forms ifaces n (s ∷ ss) names few told =
 -- ---- classes
 
 -- what is known of a class: its name and its parent's, and its slots
-record IsToldClass (ifaces : List ScopeIface) (k : ℕ) : Type 0 where
-  within : k < length ifaces
-  parent : (p : ℕ) → parent_of ifaces k ≡ Some p → p < length ifaces
-  room : length (inherited ifaces k) + length (own_of ifaces k) ≤ 250
-  slots : AllByRecursion (IsToldSlot ifaces) (own_of ifaces k)
+pub record IsToldClass (ifaces : List ScopeIface) (k : ℕ) : Type 0 where
+  pub within : k < length ifaces
+  pub parent : (p : ℕ) → parent_of ifaces k ≡ Some p → p < length ifaces
+  pub room : length (inherited ifaces k) + length (own_of ifaces k) ≤ 250
+  pub slots : AllByRecursion (IsToldSlot ifaces) (own_of ifaces k)
 
 named-at : (ifaces : List ScopeIface) (k : ℕ) → AreNames ifaces → k < length ifaces → IsName (name_at ifaces k)
 named-at ifaces k names within = name-made 255 (name_at ifaces k) (omega arith) (names k within)
@@ -123,7 +123,7 @@ forwards-forms : (is : List ScopeIface) → AllByRecursion (λ i. IsNameOf 255 i
 forwards-forms [] names = refl
 forwards-forms (i ∷ is) names = ((i.name, refl, name-made 255 i.name (omega arith) names.0), forwards-forms is names.1)
 
-header-forms : (s : Scope) → AreNames s.ifaces → AllByRecursion (λ i. IsNameOf 255 i.name) s.ifaces → AllByRecursion (IsToldClass s.ifaces) (definitions_of s.ifaces)
+pub header-forms : (s : Scope) → AreNames s.ifaces → AllByRecursion (λ i. IsNameOf 255 i.name) s.ifaces → AllByRecursion (IsToldClass s.ifaces) (definitions_of s.ifaces)
     → Each IsLine (lines_of (header_text s)) (header_said s)
 unfolding header_text
 header-forms s names named told =

@@ -3,4 +3,5 @@ pub mod NameLaws
 pub mod TypeLaws
 pub mod ArgumentLaws
 pub mod FormLaws
+pub mod ToldLaws
 pub mod StepLaws
