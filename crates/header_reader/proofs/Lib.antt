@@ -1,0 +1,4 @@
+pub mod Fits
+pub mod NameSets
+pub mod Outcomes
+pub mod Parts
