@@ -9,7 +9,7 @@ use Rattle.std.proofs.lemmas.Bool.{ltb-true}
 use Rattle.std.proofs.lemmas.List.Elements.{All-append}
 use Rattle.std.proofs.lemmas.Option.{none-some, same_Some}
 use Rattle.line_words.specs.Words.{Word}
-use Rattle.line_words.proofs.Choices.{chosen}
+use Rattle.line_words.proofs.Choices.{bound, chosen}
 use Rattle.header_model.specs.declared.decls.Decl.{Decl}
 use Rattle.header_model.specs.declared.decls.DeclSlot.{DeclSlot}
 use Rattle.header_model.specs.declared.limits.TheConstants.{MAX_ARGUMENTS}
@@ -18,7 +18,7 @@ use Rattle.header_model.specs.declared.lines.Line.TheVariants as lines
 use Rattle.header_model.specs.declared.states.State.{State}
 use Rattle.header_model.specs.declared.states.State.TheVariants.{Between, Begun, Inside}
 use Rattle.header_model.specs.Declares.{class_begun, decl_of, has_name, next_slot, slots_at, step, with_slot}
-use Rattle.header_reader.specs.Reading.{AreFit, IsFit}
+use Rattle.header_reader.specs.Reading.{AreFit, IsFit, behind_of, form_of}
 
 abbrev pub AreFew : ℕ → List Decl → Type 0
 AreFew n decls = (length decls ≤ n) × All (λ decl. next_slot decl ≤ 250) decls
@@ -99,6 +99,5 @@ step_few n (Inside decls decl) lines.Forward next few h = absurd (none-some next
 step_few n (Inside decls decl) (lines.Class name parent) next few h = absurd (none-some next h)
 step_few n (Inside decls decl) lines.Public next few h = absurd (none-some next h)
 
-pub read_few : (n : ℕ) (state : State) (line : Option Line) (next : State) → IsFew n state → option_map_or (step state) line None ≡ Some next → IsFew (n + 1) next
-read_few n state None next few h = absurd (none-some next h)
-read_few n state (Some line) next few h = step_few n state line next few h
+pub behind_few : (n : ℕ) (state : State) (w : Word) (next : State) → IsFew n state → behind_of state w ≡ Some next → IsFew (n + 1) next
+behind_few n state w next few h = let line = bound (form_of w) (step state) next h in step_few n state line.0 next few line.2

@@ -1,7 +1,8 @@
 -- The lines of a text, and what they come to line by line.
 use Rattle.std.proofs.Common.{◌≡◌, ℕ, ◌+◌, Bool, true, false, not, eqb, List, [], ◌∷◌, ◌++◌, length, Option, Some, None, Result, Ok, Err, refl, sym, ap, subst, ◌∙◌}
 use Rattle.std.specs.Option.{option_map_or}
-use Rattle.std.proofs.lemmas.Bool.{false≢true}
+use Rattle.std.proofs.lemmas.Bool.{false≢true, eqb-true}
+use Rattle.std.proofs.lemmas.List.{nil_from_length}
 use Rattle.std.proofs.lemmas.Option.{none-some}
 use Rattle.line_words.specs.Words.{Word, ◌>>=◌, before, cut_at}
 use Rattle.line_words.proofs.Choices.{both, not_true}
@@ -12,7 +13,8 @@ use Rattle.header_model.specs.declared.lines.Line.{Line}
 use Rattle.header_model.specs.declared.states.State.{State}
 use Rattle.header_model.specs.Declares.{step}
 use Rattle.header_model.specs.Lines.{lines_of}
-use Rattle.header_reader.specs.Reading.{form_of, line_of, outcome}
+use Rattle.header_model.specs.declared.states.State.TheVariants.{Between, Begun, Inside}
+use Rattle.header_reader.specs.Reading.{behind_of, finish, form_of, line_of, outcome}
 
 -- ---- lines
 
@@ -55,7 +57,7 @@ line_cut_off w h = by_end (before (10 ∷ []) w) refl
 -- ---- one line more
 
 pub outcome_cut : (from : State) (number : ℕ) (text line rest : Word) → cut_at 10 text ≡ Some (line, rest)
-    → outcome from number (lines_of text) ≡ option_map_or (λ next. outcome next (number + 1) (lines_of rest)) (form_of line >>= step from) (Err number)
+    → outcome from number (lines_of text) ≡ option_map_or (λ next. outcome next (number + 1) (lines_of rest)) (behind_of from line) (Err number)
 outcome_cut from number text line rest is =
     let parts = cut_gives 10 text line rest is in rw (parts.0, lines_first line rest parts.1, line_whole line) refl
 
@@ -63,3 +65,13 @@ pub outcome_open : (from : State) (number : ℕ) (text : Word) → cut_at 10 tex
 outcome_open from number [] is some = absurd (false≢true (sym some))
 outcome_open from number (b ∷ a) is some =
     let free = cut_gives_none 10 (b ∷ a) is in rw (lines_open b a free, line_cut_off (b ∷ a) free) refl
+
+-- ---- the end of a text
+
+pub outcome_end : (from : State) (number : ℕ) (text : Word) → eqb (length text) 0 ≡ true → outcome from number (lines_of text) ≡ finish from number
+outcome_end from number text is = rw (nil_from_length text (eqb-true (length text) 0 is), no_lines) refl
+
+pub end_open : (from : State) (number : ℕ) → ((decls : List Decl) → from ≡ Between decls → ⊥) → finish from number ≡ Err number
+end_open (Between decls) number other = absurd (other decls refl)
+end_open (Begun decls decl) number other = refl
+end_open (Inside decls decl) number other = refl

@@ -42,9 +42,8 @@ pub record IsApart (mark : ℕ) : Type 0 where
 
 -- ---- pointers
 
-no_more : (w : Word) → eqb (length w) 0 ≡ true → w ≡ []
-no_more [] h = refl
-no_more (b ∷ w) h = absurd (false≢true h)
+pub no_more : (w : Word) → eqb (length w) 0 ≡ true → w ≡ []
+no_more w h = nil_from_length w (eqb-true (length w) 0 h)
 
 pub pointer_read : (w : Word) → is_pointer w ≡ true → IsPointer w
 unfolding is_pointer
@@ -80,20 +79,20 @@ pointer_lacks mark w free (name, marks, is, named, inr h) =
 
 -- ---- types
 
-is_value : CType → Bool
+abbrev is_value : CType → Bool
 is_value c.Ptr = false
 is_value _ = true
 
 -- what is found passes the test, and each test that all pass
 found : {A : Type 0} (test other : A → Bool) (xs : List A) (x : A) → list_all other xs ≡ true → find test xs ≡ Some x → (test x ≡ true) × (other x ≡ true)
 found test other [] x all h = absurd (none-some x h)
-found test other (y ∷ xs) x all h = by_test (test y) refl h
+found test other (y ∷ xs) x all h =
+    let parts = both (other y) (list_all other xs) all in by_test parts.0 (test y) refl (found test other xs x parts.1) h
   where
-    parts : (other y ≡ true) × (list_all other xs ≡ true)
-    parts = both (other y) (list_all other xs) all
-    by_test : (b : Bool) → test y ≡ b → cond b (Some y) (find test xs) ≡ Some x → (test x ≡ true) × (other x ≡ true)
-    by_test true e h = (subst (λ z. test z ≡ true) (same_Some y x h) e, subst (λ z. other z ≡ true) (same_Some y x h) parts.0)
-    by_test false e h = found test other xs x parts.1 h
+    by_test : other y ≡ true → (b : Bool) → test y ≡ b → (find test xs ≡ Some x → (test x ≡ true) × (other x ≡ true))
+        → cond b (Some y) (find test xs) ≡ Some x → (test x ≡ true) × (other x ≡ true)
+    by_test is true e later h = (subst (λ z. test z ≡ true) (same_Some y x h) e, subst (λ z. other z ≡ true) (same_Some y x h) is)
+    by_test is false e later h = later h
 
 value_is : (w : Word) (t : CType) → is_value t ≡ true → w ≡ type_word t → IsType w t
 value_is w c.I8 v h = h
