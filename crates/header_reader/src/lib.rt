@@ -6,6 +6,7 @@ mod arguments;
 mod class_names;
 mod error;
 mod forms;
+pub mod laws;
 mod read;
 mod spellings;
 mod transitions;
