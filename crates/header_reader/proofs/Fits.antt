@@ -1,8 +1,7 @@
 -- No more classes than lines, and no more slots than a class may have.
-use Rattle.std.proofs.Common.{◌≡◌, ℕ, suc, ◌+◌, ◌≤◌, ◌<◌, ◌^◌, Bool, true, false, cond, eqb, ltb, leb, List, [], ◌∷◌, ◌++◌, length, get_or, zero, Option, Some, None, refl, sym, ap, subst, ◌∙◌, inl, inr, arith, length-append}
-use Rattle.std.specs.Prelude.{position, slice_get, option_map}
+use Rattle.std.proofs.Common.{◌≡◌, ℕ, suc, ◌+◌, ◌≤◌, ◌<◌, ◌^◌, eqb, ltb, leb, List, [], ◌∷◌, ◌++◌, length, zero, Option, Some, None, refl, subst, inl, inr, arith, length-append}
+use Rattle.std.specs.Prelude.{position, option_map}
 use Rattle.std.specs.List.{All, list_any}
-use Rattle.std.specs.Option.{option_map_or}
 use Rattle.std.specs.Fmt.{decimal}
 use Rattle.std.specs.Str.{bytes_eq}
 use Rattle.std.proofs.lemmas.Bool.{ltb-true}
@@ -18,7 +17,7 @@ use Rattle.header_model.specs.declared.lines.Line.TheVariants as lines
 use Rattle.header_model.specs.declared.states.State.{State}
 use Rattle.header_model.specs.declared.states.State.TheVariants.{Between, Begun, Inside}
 use Rattle.header_model.specs.Declares.{class_begun, decl_of, has_name, next_slot, slots_at, step, with_slot}
-use Rattle.header_reader.specs.Reading.{AreFit, IsFit, behind_of, form_of}
+use Rattle.header_reader.specs.Reading.{IsFit, behind_of, form_of}
 
 abbrev pub AreFew : ℕ → List Decl → Type 0
 AreFew n decls = (length decls ≤ n) × All (λ decl. next_slot decl ≤ 250) decls

@@ -1,18 +1,18 @@
 -- The forms of lines: what is read is spelled so, and what is spelled so is read.
-use Rattle.std.proofs.Common.{◌≡◌, ℕ, Bool, true, false, eqb, ◌&&◌, List, [], ◌∷◌, ◌++◌, length, Option, Some, None, refl, sym, ap, subst, ◌∙◌, inl, inr, append_assoc}
+use Rattle.std.proofs.Common.{◌≡◌, true, eqb, ◌&&◌, [], ◌∷◌, ◌++◌, length, Some, None, refl, sym, ap, subst, ◌∙◌, inl, inr, append_assoc}
 use Rattle.std.specs.Prelude.{codes}
 use Rattle.std.specs.Char.{is_ascii_digit}
 use Rattle.std.specs.List.{list_all}
 use Rattle.std.specs.Str.{bytes_eq}
 use Rattle.std.proofs.lemmas.Option.{none-some, same_Some}
-use Rattle.line_words.specs.Words.{Each, Word, ◌>>=◌, after, before, cut_at}
+use Rattle.line_words.specs.Words.{Word, after, before, cut_at}
 use Rattle.line_words.proofs.Choices.{both, bound, chosen, ways}
-use Rattle.line_words.proofs.Marks.{all_lack, cut_first, cut_gives, cut_none, lacks, lacks_join, marked}
-use Rattle.line_words.proofs.Prefixes.{after_other, after_read, after_spelled, before_read, before_spelled, same_bytes}
+use Rattle.line_words.proofs.Marks.{all_lack, cut_first, cut_gives, cut_none, lacks, lacks_join}
+use Rattle.line_words.proofs.Prefixes.{after_read, after_spelled, before_read, before_spelled, same_bytes}
 use Rattle.header_model.specs.declared.lines.Line.{Line}
 use Rattle.header_model.specs.declared.lines.Line.TheVariants.{Forward, Class, Public, Reserved, Method, Close}
 use Rattle.header_model.specs.Lines.{IsForm, IsLine}
-use Rattle.header_model.specs.Words.{IsName, is_name, joined}
+use Rattle.header_model.specs.Words.{is_name, joined}
 use Rattle.header_reader.specs.Reading.{arguments_of, class_of, form_of, head_of, line_of, method_of, name_of, reserved_of, slot_of}
 use Rattle.header_reader.proofs.Lists.{arguments_lack, arguments_read, arguments_spelled}
 use Rattle.header_reader.proofs.Outcomes.{line_whole}
@@ -150,16 +150,30 @@ form_spelled w (Class name (Some parent)) (is, named, other) =
     let inner : Word = name ++ 32 ∷ (codes ": public " ++ parent) in
     let free : lacks 59 inner ≡ true = lacks_join 59 name (32 ∷ (codes ": public " ++ parent)) (name_lacks 59 name refl named) (lacks_join 59 (codes " : public ") parent refl (name_lacks 59 parent refl other)) in
     let spelled : w ≡ codes "class " ++ (inner ++ codes " {") = is ∙ sym (extended name parent) in
-    rw (spelled, class_line (inner ++ codes " {"), head_class inner free,
-      cut_first 32 name (codes ": public " ++ parent) (name_lacks 32 name refl named), after_spelled (codes ": public ") parent, name_spelled name named, name_spelled parent other) refl
+    rw (
+      spelled,
+      class_line (inner ++ codes " {"),
+      head_class inner free,
+      cut_first 32 name (codes ": public " ++ parent) (name_lacks 32 name refl named),
+      after_spelled (codes ": public ") parent,
+      name_spelled name named,
+      name_spelled parent other,
+    ) refl
 form_spelled w (Reserved number) (is, digits) =
     let spelled : w ≡ codes "  virtual void xpcall_reserved_" ++ (number ++ codes "() = 0;") = is ∙ sym (three (codes "  virtual void xpcall_reserved_") number (codes "() = 0;")) in
     rw (spelled, slot_line (codes "void xpcall_reserved_" ++ (number ++ codes "() = 0;")), reserved_line (number ++ codes "() = 0;"), before_spelled (codes "() = 0;") number, digits) refl
 form_spelled w (Method name types) (args, is, named, all) =
     let rest : Word = joined args ++ codes ") = 0;" in
     let spelled : w ≡ codes "  virtual nsresult " ++ (name ++ 40 ∷ rest) = is ∙ sym (called name (joined args)) in
-    rw (spelled, slot_line (codes "nsresult " ++ (name ++ 40 ∷ rest)), method_line (name ++ 40 ∷ rest),
-      cut_first 40 name rest (name_lacks 40 name refl named), name_spelled name named, before_spelled (codes ") = 0;") (joined args), arguments_spelled args types all) refl
+    rw (
+      spelled,
+      slot_line (codes "nsresult " ++ (name ++ 40 ∷ rest)),
+      method_line (name ++ 40 ∷ rest),
+      cut_first 40 name rest (name_lacks 40 name refl named),
+      name_spelled name named,
+      before_spelled (codes ") = 0;") (joined args),
+      arguments_spelled args types all,
+    ) refl
 
 -- ---- lines
 

@@ -1,18 +1,17 @@
 -- The arguments of a function, one after the other, and the lines that no argument breaks.
-use Rattle.std.proofs.Common.{◌≡◌, ℕ, suc, ◌<◌, Bool, true, false, not, eqb, List, [], ◌∷◌, ◌++◌, length, map, Option, Some, None, refl, sym, ap, subst, ◌∙◌, inl, inr, arith, length-append}
+use Rattle.std.proofs.Common.{◌≡◌, ℕ, ◌<◌, true, false, eqb, List, [], ◌∷◌, ◌++◌, length, map, Some, refl, sym, ap, subst, ◌∙◌, inl, inr, arith, length-append}
 use Rattle.std.specs.Prelude.{codes}
 use Rattle.std.specs.List.{flat_map, join_with_byte, slice_split}
-use Rattle.std.proofs.lemmas.Bool.{false≢true, ne_eqb}
+use Rattle.std.proofs.lemmas.Bool.{ne_eqb}
 use Rattle.std.proofs.lemmas.List.{append-nil}
 use Rattle.std.proofs.lemmas.List.Splits.{join_with_byte-slice_split, slice_split_at, slice_split_none}
-use Rattle.std.proofs.lemmas.Option.{none-some, same_Some}
+use Rattle.std.proofs.lemmas.Option.{same_Some}
 use Rattle.call_model.specs.declared.ctypes.CType.{CType}
-use Rattle.call_model.specs.declared.ctypes.CType.TheVariants as c
 use Rattle.line_words.specs.Words.{Each, Word, ◌>>=◌, after, each_of}
-use Rattle.line_words.proofs.Choices.{both, bound, chosen}
+use Rattle.line_words.proofs.Choices.{bound, chosen}
 use Rattle.line_words.proofs.Marks.{lacks, lacks_all, lacks_join}
 use Rattle.line_words.proofs.Prefixes.{after_read, after_spelled}
-use Rattle.header_model.specs.Words.{IsArgument, IsType, joined, type_word}
+use Rattle.header_model.specs.Words.{IsArgument, joined}
 use Rattle.header_reader.specs.Reading.{all_of, argument_of, arguments_of, later_of}
 use Rattle.header_reader.proofs.Parts.{IsApart, argument_read, argument_spelled, name_lacks, no_more, type_lacks}
 
@@ -77,9 +76,11 @@ later_read (p ∷ ps) types h =
     let one = bound (after (codes " ") p >>= argument_of) (λ t. each_of later_of ps >>= λ ts. Some (t ∷ ts)) types h in
     let cut = bound (after (codes " ") p) argument_of one.0 one.1 in
     let more = bound (each_of later_of ps) (λ ts. Some (one.0 ∷ ts)) types one.2 in
-    let rest = later_read ps more.0 more.1 in
-    (cut.0 ∷ rest.0, ap (λ v. v ∷ ps) (after_read (codes " ") p cut.0 cut.1) ∙ ap (λ vs. (32 ∷ cut.0) ∷ vs) rest.1,
-      subst (λ us. Each IsArgument (cut.0 ∷ rest.0) us) (same_Some (one.0 ∷ more.0) types more.2) (argument_read cut.0 one.0 cut.2, rest.2))
+    let rest = later_read ps more.0 more.1 in (
+      cut.0 ∷ rest.0,
+      ap (λ v. v ∷ ps) (after_read (codes " ") p cut.0 cut.1) ∙ ap (λ vs. (32 ∷ cut.0) ∷ vs) rest.1,
+      subst (λ us. Each IsArgument (cut.0 ∷ rest.0) us) (same_Some (one.0 ∷ more.0) types more.2) (argument_read cut.0 one.0 cut.2, rest.2),
+    )
 
 join_joined : (w : Word) (ws : List Word) → join_with_byte 44 (w ∷ map (λ v. 32 ∷ v) ws) ≡ w ++ flat_map (λ v. codes ", " ++ v) ws
 join_joined w [] = sym (append-nil w)
@@ -97,7 +98,8 @@ arguments_read w types h = elim (chosen (eqb (length w) 0) _ _ _ h) as (λ _. (a
     by_parts (first ∷ rest) is h =
         let one = bound (argument_of first) (λ t. each_of later_of rest >>= λ ts. Some (t ∷ ts)) types h in
         let more = bound (each_of later_of rest) (λ ts. Some (one.0 ∷ ts)) types one.2 in
-        let later = later_read rest more.0 more.1 in
-        (first ∷ later.0,
+        let later = later_read rest more.0 more.1 in (
+          first ∷ later.0,
           sym (join_with_byte-slice_split 44 w) ∙ (ap (join_with_byte 44) is ∙ (ap (λ ps. join_with_byte 44 (first ∷ ps)) later.1 ∙ join_joined first later.0)),
-          subst (λ us. Each IsArgument (first ∷ later.0) us) (same_Some (one.0 ∷ more.0) types more.2) (argument_read first one.0 one.1, later.2))
+          subst (λ us. Each IsArgument (first ∷ later.0) us) (same_Some (one.0 ∷ more.0) types more.2) (argument_read first one.0 one.1, later.2),
+        )

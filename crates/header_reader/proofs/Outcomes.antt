@@ -1,17 +1,14 @@
 -- The lines of a text, and what they come to line by line.
-use Rattle.std.proofs.Common.{◌≡◌, ℕ, ◌+◌, Bool, true, false, not, eqb, List, [], ◌∷◌, ◌++◌, length, Option, Some, None, Result, Ok, Err, refl, sym, ap, subst, ◌∙◌}
+use Rattle.std.proofs.Common.{◌≡◌, ℕ, ◌+◌, true, false, not, eqb, List, [], ◌∷◌, ◌++◌, length, Option, Some, None, Err, refl, sym, subst}
 use Rattle.std.specs.Option.{option_map_or}
 use Rattle.std.proofs.lemmas.Bool.{false≢true, eqb-true}
 use Rattle.std.proofs.lemmas.List.{nil_from_length}
-use Rattle.std.proofs.lemmas.Option.{none-some}
 use Rattle.line_words.specs.Words.{Word, ◌>>=◌, before, cut_at}
 use Rattle.line_words.proofs.Choices.{both, not_true}
 use Rattle.line_words.proofs.Marks.{cut_gives, cut_gives_none, lacks}
 use Rattle.line_words.proofs.Prefixes.{before_read, before_spelled}
 use Rattle.header_model.specs.declared.decls.Decl.{Decl}
-use Rattle.header_model.specs.declared.lines.Line.{Line}
 use Rattle.header_model.specs.declared.states.State.{State}
-use Rattle.header_model.specs.Declares.{step}
 use Rattle.header_model.specs.Lines.{lines_of}
 use Rattle.header_model.specs.declared.states.State.TheVariants.{Between, Begun, Inside}
 use Rattle.header_reader.specs.Reading.{behind_of, finish, form_of, line_of, outcome}

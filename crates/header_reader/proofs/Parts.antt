@@ -1,22 +1,21 @@
 -- Names, types and arguments: what is read is spelled so, and what is spelled so is read.
-use Rattle.std.proofs.Common.{◌≡◌, ℕ, suc, ◌+◌, ◌<◌, ◌≤◌, Bool, true, false, not, cond, eqb, ltb, leb, ◌&&◌, List, [], ◌∷◌, ◌++◌, length, map, get_or, Option, Some, None, refl, sym, ap, subst, ◌∙◌, inl, inr, arith, append_assoc, length-append}
+use Rattle.std.proofs.Common.{◌≡◌, ℕ, Bool, true, false, not, cond, eqb, ltb, leb, ◌&&◌, List, [], ◌∷◌, ◌++◌, length, get_or, Some, refl, sym, ap, subst, ◌∙◌, inl, inr, arith, append_assoc}
 use Rattle.std.specs.Prelude.{codes, find}
 use Rattle.std.specs.Char.{is_ascii_digit}
-use Rattle.std.specs.List.{list_all, flat_map, join_with_byte, slice_split}
+use Rattle.std.specs.List.{list_all}
 use Rattle.std.specs.Str.{bytes_eq}
-use Rattle.std.proofs.lemmas.Bool.{false≢true, eqb-true, ne_eqb}
-use Rattle.std.proofs.lemmas.List.{append-nil, nil_from_length}
-use Rattle.std.proofs.lemmas.List.Splits.{join_with_byte-slice_split, slice_split_at, slice_split_none}
+use Rattle.std.proofs.lemmas.Bool.{false≢true, eqb-true}
+use Rattle.std.proofs.lemmas.List.{nil_from_length}
 use Rattle.std.proofs.lemmas.Option.{cond_some, none-some, same_Some}
 use Rattle.call_model.specs.declared.ctypes.CType.{CType}
 use Rattle.call_model.specs.declared.ctypes.CType.TheVariants as c
-use Rattle.line_words.specs.Words.{Each, Word, ◌>>=◌, after, cut_at, each_of}
+use Rattle.line_words.specs.Words.{Word, cut_at}
 use Rattle.line_words.proofs.Choices.{both, bound, chosen, ways}
-use Rattle.line_words.proofs.Marks.{all_lack, cut_first, cut_gives, cut_none, lacks, lacks_all, lacks_join, marked}
-use Rattle.line_words.proofs.Prefixes.{after_read, after_spelled, same_bytes}
+use Rattle.line_words.proofs.Marks.{all_lack, cut_first, cut_gives, cut_none, lacks, lacks_join, marked}
+use Rattle.line_words.proofs.Prefixes.{same_bytes}
 use Rattle.header_model.specs.declared.limits.TheConstants.{MAX_NAME}
-use Rattle.header_model.specs.Words.{AreMarks, IsArgument, IsName, IsPointer, IsType, is_name, is_name_byte, joined, type_word}
-use Rattle.header_reader.specs.Reading.{all_of, argument_of, arguments_of, const_of, is_pointer, later_of, name_of, type_of, value_of, value_types}
+use Rattle.header_model.specs.Words.{IsArgument, IsName, IsPointer, IsType, is_name, is_name_byte, type_word}
+use Rattle.header_reader.specs.Reading.{argument_of, const_of, is_pointer, name_of, type_of, value_of, value_types}
 
 -- ---- names
 

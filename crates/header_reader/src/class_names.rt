@@ -1,8 +1,10 @@
 //! The names of the classes that have begun.
 
-ghost use Rattle.std.specs.Prelude.{◌≡◌, false, [], ◌∷◌, ◌++◌, position, OnOk};
+ghost use Rattle.std.specs.Prelude.{◌≡◌, ◌<◌, false, List, [], ◌∷◌, ◌++◌, length, map, position, IfSome, OnOk};
 ghost use Rattle.std.specs.List.{list_any};
 ghost use Rattle.std.specs.Str.{bytes_eq};
+ghost use Rattle.header_model.specs.declared.decls.Decl.{Decl};
+ghost use Rattle.header_model.specs.Declares.{has_name};
 
 use indexmap::IndexSet;
 use std::alloc::Global;
@@ -38,14 +40,17 @@ impl ClassNames {
 
     /// Which of the classes has the name, counted from 0.
     pub(crate) fn number_of(&self, name: &[u8]) -> Option<usize>
-        ensures { result ≡ position (λ n. bytes_eq n name.now) self.now }
+        ensures number { (decls : List Decl) → self.now ≡ map (λ decl. decl.name) decls
+            → result ≡ position (has_name name.now) decls }
+        ensures within { IfSome result (λ number. number < length self.now) }
     {
         self.names.get_index_of(name)
     }
 
     /// Whether a class has the name.
     pub(crate) fn has(&self, name: &[u8]) -> bool
-        ensures { result ≡ list_any (λ n. bytes_eq n name.now) self.now }
+        ensures { (decls : List Decl) → self.now ≡ map (λ decl. decl.name) decls
+            → result ≡ list_any (has_name name.now) decls }
     {
         self.names.contains(name)
     }

@@ -65,12 +65,7 @@ fn come_to(alloc: Global, text: &[u8]) -> Result<List<Decl>, HeaderReadError>
 }
 
 /// Where the header stands behind a line, its line feed left out.
-fn behind(
-    alloc: Global,
-    names: &mut ClassNames,
-    state: State,
-    line: &[u8],
-) -> Result<State, Unread>
+fn behind(alloc: Global, names: &mut ClassNames, state: State, line: &[u8]) -> Result<State, Unread>
     requires known { names.now ≡ names_of state }
     requires fit { IsFit state }
     ensures next { Gives result (behind_of state line.now) }

@@ -16,10 +16,7 @@ use xp_base::Bytes;
 pub(crate) fn is_name(word: &[u8]) -> bool
     ensures { result ≡ words.is_name word.now }
 {
-    !word.is_empty()
-        && word.len() <= MAX_NAME
-        && are_name_bytes(word)
-        && !word[0].is_ascii_digit()
+    !word.is_empty() && word.len() <= MAX_NAME && are_name_bytes(word) && !word[0].is_ascii_digit()
 }
 
 fn are_name_bytes(word: &[u8]) -> bool

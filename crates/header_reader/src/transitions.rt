@@ -82,7 +82,7 @@ fn class(
     ensures next { Gives result (declares.step_class decls name parent) }
     ensures known { IfOk result (λ next. names.new ≡ names_of next) }
 {
-    if is_defined(names, &decls, name.as_slice()) {
+    if names.has(name.as_slice()) {
         return Err(Unread::NoReading);
     }
     let slots = List::new(alloc);
@@ -95,7 +95,7 @@ fn class(
         };
         return begin(names, decls, decl);
     };
-    let number = number_of(names, &decls, parent.as_slice()).ok_or(Unread::NoReading)?;
+    let number = names.number_of(parent.as_slice()).ok_or(Unread::NoReading)?;
     let decl = Decl {
         name,
         parent: Some(number as u32),
@@ -113,23 +113,6 @@ fn begin(names: &mut ClassNames, decls: List<Decl>, decl: Decl) -> Result<State,
 {
     names.add(decl.name.as_slice())?;
     Ok(State::Begun(decls, decl))
-}
-
-fn is_defined(names: &ClassNames, decls: &List<Decl>, name: &[u8]) -> bool
-    requires { names.now ≡ map (λ decl. decl.name) decls.now }
-    ensures { result ≡ list_any (has_name name.now) decls.now }
-{
-    let _classes = decls;
-    names.has(name)
-}
-
-fn number_of(names: &ClassNames, decls: &List<Decl>, name: &[u8]) -> Option<usize>
-    requires { names.now ≡ map (λ decl. decl.name) decls.now }
-    ensures number { result ≡ position (has_name name.now) decls.now }
-    ensures within { IfSome result (λ number. number < length decls.now) }
-{
-    let _classes = decls;
-    names.number_of(name)
 }
 
 /// How many slots the class of this number has, those of the classes that it extends counted.
@@ -188,12 +171,7 @@ fn reserved(alloc: Global, decls: List<Decl>, decl: Decl, number: Bytes) -> Resu
     }
 }
 
-fn method(
-    decls: List<Decl>,
-    decl: Decl,
-    name: Bytes,
-    types: List<CType>,
-) -> Result<State, Unread>
+fn method(decls: List<Decl>, decl: Decl, name: Bytes, types: List<CType>) -> Result<State, Unread>
     requires { next_slot decl ≤ 250 }
     ensures next { Gives result (declares.step_method decls decl name types) }
     ensures known { IfOk result (λ next. names_of next ≡ names_of (states.Inside decls decl)) }

@@ -1,4 +1,4 @@
-use Rattle.std.proofs.Common.{◌≡◌, ◌+◌, Some, None, ap, sym, refl, ◌∙◌, arith, length, length-append}
+use Rattle.std.proofs.Common.{◌≡◌, Some, None, ap, sym, refl, ◌∙◌, arith, length, length-append}
 use Rattle.line_words.proofs.Marks.{cut_gives}
 use Rattle.header_reader.specs.Reading.{behind_of}
 use Rattle.header_reader.proofs.Fits.{behind_few}
@@ -23,9 +23,12 @@ pub loop-rest-preserved : goal.loop-rest-preserved
 loop-rest-preserved c =
     let parts = cut_gives 10 c.loop-rest.rest.now c.in-Some.line.now c.in-Some.more.now (sym c.in-Some.ensures) in
     let next : behind_of c.loop-rest.state c.in-Some.line.now ≡ Some c.in-Ok.next = c.in-Ok.ensures.next in
-    let before = outcome_cut c.loop-rest.state c.loop-rest.number c.loop-rest.rest.now c.in-Some.line.now c.in-Some.more.now (sym c.in-Some.ensures) in
-    (sym (before ∙ rw next refl) ∙ c.loop-rest.invariant.0, omega (arith, c.loop-rest.invariant.1, simp length-append at (ap length parts.0)),
-      behind_few c.loop-rest.number c.loop-rest.state c.in-Some.line.now c.in-Ok.next c.loop-rest.invariant.2 next, c.in-Ok.ensures.known)
+    let before = outcome_cut c.loop-rest.state c.loop-rest.number c.loop-rest.rest.now c.in-Some.line.now c.in-Some.more.now (sym c.in-Some.ensures) in (
+      sym (before ∙ rw next refl) ∙ c.loop-rest.invariant.0,
+      omega (arith, c.loop-rest.invariant.1, simp length-append at (ap length parts.0)),
+      behind_few c.loop-rest.number c.loop-rest.state c.in-Some.line.now c.in-Ok.next c.loop-rest.invariant.2 next,
+      c.in-Ok.ensures.known,
+    )
 
 pub returns-in-Between : goal.returns-in-Between
 returns-in-Between c =
