@@ -60,20 +60,59 @@ const REFUSED: [(&str, u32); 26] = [
     ("class a {\n};\n", 2),
     ("class a {\n public:\n};\nclass a;\n", 4),
     ("class a {\n public:\n};\nclass a {\n public:\n};\n", 4),
-    ("class a : public b {\n public:\n};\nclass b {\n public:\n};\n", 1),
+    (
+        "class a : public b {\n public:\n};\nclass b {\n public:\n};\n",
+        1,
+    ),
     ("class a : public a {\n public:\n};\n", 1),
-    ("class a {\n public:\n  virtual void xpcall_reserved_1() = 0;\n};\n", 3),
-    ("class a {\n public:\n  virtual void xpcall_reserved_00() = 0;\n};\n", 3),
-    ("class a {\n public:\n  virtual void xpcall_reserved_() = 0;\n};\n", 3),
-    ("class a {\n public:\n  virtual nsresult f(int32 a) = 0;\n};\n", 3),
-    ("class a {\n public:\n  virtual nsresult f(const int32_t a) = 0;\n};\n", 3),
-    ("class a {\n public:\n  virtual nsresult f(const a) = 0;\n};\n", 3),
-    ("class a {\n public:\n  virtual nsresult f(x&& a) = 0;\n};\n", 3),
-    ("class a {\n public:\n  virtual nsresult f(x*& a) = 0;\n};\n", 3),
-    ("class a {\n public:\n  virtual nsresult f(bool a,bool b) = 0;\n};\n", 3),
-    ("class a {\n public:\n  virtual nsresult f( bool a) = 0;\n};\n", 3),
-    ("class a {\n public:\n  virtual nsresult f(bool a, ) = 0;\n};\n", 3),
-    ("class a {\n public:\n  virtual nsresult f(bool 1) = 0;\n};\n", 3),
+    (
+        "class a {\n public:\n  virtual void xpcall_reserved_1() = 0;\n};\n",
+        3,
+    ),
+    (
+        "class a {\n public:\n  virtual void xpcall_reserved_00() = 0;\n};\n",
+        3,
+    ),
+    (
+        "class a {\n public:\n  virtual void xpcall_reserved_() = 0;\n};\n",
+        3,
+    ),
+    (
+        "class a {\n public:\n  virtual nsresult f(int32 a) = 0;\n};\n",
+        3,
+    ),
+    (
+        "class a {\n public:\n  virtual nsresult f(const int32_t a) = 0;\n};\n",
+        3,
+    ),
+    (
+        "class a {\n public:\n  virtual nsresult f(const a) = 0;\n};\n",
+        3,
+    ),
+    (
+        "class a {\n public:\n  virtual nsresult f(x&& a) = 0;\n};\n",
+        3,
+    ),
+    (
+        "class a {\n public:\n  virtual nsresult f(x*& a) = 0;\n};\n",
+        3,
+    ),
+    (
+        "class a {\n public:\n  virtual nsresult f(bool a,bool b) = 0;\n};\n",
+        3,
+    ),
+    (
+        "class a {\n public:\n  virtual nsresult f( bool a) = 0;\n};\n",
+        3,
+    ),
+    (
+        "class a {\n public:\n  virtual nsresult f(bool a, ) = 0;\n};\n",
+        3,
+    ),
+    (
+        "class a {\n public:\n  virtual nsresult f(bool 1) = 0;\n};\n",
+        3,
+    ),
     ("class a {\n public:\n\tvirtual nsresult f() = 0;\n};\n", 3),
 ];
 
@@ -194,7 +233,9 @@ fn limits_are_met_and_not_passed(rt: HostRuntime) {
 #[test]
 fn the_worked_header_is_refused_where_it_is_spoiled(rt: HostRuntime) {
     let alloc = rt.alloc();
-    let spoiled = WORKED.replace(alloc, "Add(int32_t a0_a", "Add(int32 a0_a").expect(&rt, "a text");
+    let spoiled = WORKED
+        .replace(alloc, "Add(int32_t a0_a", "Add(int32 a0_a")
+        .expect(&rt, "a text");
     check_line(&rt, alloc, &spoiled, 11);
     let cut = WORKED.strip_suffix("};\n").expect(&rt, "a last line");
     check_line(&rt, alloc, cut, 12);
