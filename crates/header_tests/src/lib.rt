@@ -1,0 +1,6 @@
+//! Tests of what no clause of the header crates says: that their calls succeed, and that the texts
+//! are those worked out by hand.
+#![tactic(auto)]
+
+#[cfg(test)]
+mod readings;
