@@ -187,7 +187,7 @@ fn add(rt: &impl Abort, text: &mut String, piece: &str) {
 }
 
 /// A class of so many functions, each with as many arguments.
-fn class_of(rt: &impl Abort, alloc: Global, slots: u32, arguments: u32) -> String {
+pub(crate) fn class_of(rt: &impl Abort, alloc: Global, slots: u32, arguments: u32) -> String {
     let mut text = String::new(alloc);
     add(rt, &mut text, "class a {\n public:\n");
     for _ in 0..slots {
