@@ -7,16 +7,17 @@ use Rattle.std.specs.Str.{bytes_eq}
 use Rattle.std.proofs.lemmas.Option.{none-some, same_Some}
 use Rattle.line_words.specs.Words.{Word, after, before, cut_at}
 use Rattle.line_words.proofs.Choices.{both, bound, chosen, ways}
-use Rattle.line_words.proofs.Marks.{all_lack, cut_first, cut_gives, cut_none, lacks, lacks_join}
+use Rattle.line_words.proofs.Marks.{cut_first, cut_gives, cut_none, lacks, lacks_join}
 use Rattle.line_words.proofs.Prefixes.{after_read, after_spelled, before_read, before_spelled, same_bytes}
 use Rattle.header_model.specs.declared.lines.Line.{Line}
 use Rattle.header_model.specs.declared.lines.Line.TheVariants.{Forward, Class, Public, Reserved, Method, Close}
 use Rattle.header_model.specs.Lines.{IsForm, IsLine}
+use Rattle.header_model.proofs.Lacking.{name_lacks}
 use Rattle.header_model.specs.Words.{is_name, joined}
 use Rattle.header_reader.specs.Reading.{arguments_of, class_of, form_of, head_of, line_of, method_of, name_of, reserved_of, slot_of}
-use Rattle.header_reader.proofs.Lists.{arguments_lack, arguments_read, arguments_spelled}
+use Rattle.header_reader.proofs.Lists.{arguments_read, arguments_spelled}
 use Rattle.header_reader.proofs.Outcomes.{line_whole}
-use Rattle.header_reader.proofs.Parts.{IsApart, name_lacks, name_read, name_spelled, no_more}
+use Rattle.header_reader.proofs.Parts.{name_read, name_spelled, no_more}
 
 -- ---- what is read
 
@@ -176,29 +177,6 @@ form_spelled w (Method name types) (args, is, named, all) =
     ) refl
 
 -- ---- lines
-
-feed : IsApart 10
-feed = record { name = refl; star = refl; ampersand = refl }
-
-pub form_lacks : (w : Word) (line : Line) → IsForm w line → lacks 10 w ≡ true
-form_lacks w Public h = rw h refl
-form_lacks w Close h = rw h refl
-form_lacks w Forward (name, is, named) = rw is (lacks_join 10 (codes "class " ++ name) (codes ";") (lacks_join 10 (codes "class ") name refl (name_lacks 10 name refl named)) refl)
-form_lacks w (Class name None) (is, named) =
-    rw is (lacks_join 10 (codes "class " ++ name) (codes " {") (lacks_join 10 (codes "class ") name refl (name_lacks 10 name refl named)) refl)
-form_lacks w (Class name (Some parent)) (is, named, other) =
-    let one = lacks_join 10 (codes "class ") name refl (name_lacks 10 name refl named) in
-    let two = lacks_join 10 (codes "class " ++ name) (codes " : public ") one refl in
-    let both_names = lacks_join 10 (codes "class " ++ name ++ codes " : public ") parent two (name_lacks 10 parent refl other) in
-    rw is (lacks_join 10 (codes "class " ++ name ++ codes " : public " ++ parent) (codes " {") both_names refl)
-form_lacks w (Reserved number) (is, digits) =
-    let one = lacks_join 10 (codes "  virtual void xpcall_reserved_") number refl (all_lack is_ascii_digit 10 number refl digits) in
-    rw is (lacks_join 10 (codes "  virtual void xpcall_reserved_" ++ number) (codes "() = 0;") one refl)
-form_lacks w (Method name types) (args, is, named, all) =
-    let one = lacks_join 10 (codes "  virtual nsresult ") name refl (name_lacks 10 name refl named) in
-    let two = lacks_join 10 (codes "  virtual nsresult " ++ name) (codes "(") one refl in
-    let three = lacks_join 10 (codes "  virtual nsresult " ++ name ++ codes "(") (joined args) two (arguments_lack 10 args types feed refl refl all) in
-    rw is (lacks_join 10 (codes "  virtual nsresult " ++ name ++ codes "(" ++ joined args) (codes ") = 0;") three refl)
 
 pub line_read : (w : Word) (line : Line) → line_of w ≡ Some line → IsLine w line
 unfolding line_of

@@ -1,5 +1,6 @@
--- The arguments of a function, one after the other, and the lines that no argument breaks.
-use Rattle.std.proofs.Common.{◌≡◌, ℕ, ◌<◌, true, false, eqb, List, [], ◌∷◌, ◌++◌, length, map, Some, refl, sym, ap, subst, ◌∙◌, inl, inr, arith, length-append}
+-- The arguments of a function, one after the other: what is read is spelled so, and what is spelled
+-- so is read.
+use Rattle.std.proofs.Common.{◌≡◌, ◌<◌, true, false, eqb, List, [], ◌∷◌, ◌++◌, length, map, Some, refl, sym, ap, subst, ◌∙◌, inl, inr, arith, length-append}
 use Rattle.std.specs.Prelude.{codes}
 use Rattle.std.specs.List.{flat_map, join_with_byte, slice_split}
 use Rattle.std.proofs.lemmas.Bool.{ne_eqb}
@@ -9,32 +10,12 @@ use Rattle.std.proofs.lemmas.Option.{same_Some}
 use Rattle.call_model.specs.declared.ctypes.CType.{CType}
 use Rattle.line_words.specs.Words.{Each, Word, ◌>>=◌, after, each_of}
 use Rattle.line_words.proofs.Choices.{bound, chosen}
-use Rattle.line_words.proofs.Marks.{lacks, lacks_all, lacks_join}
+use Rattle.line_words.proofs.Marks.{lacks, lacks_all}
 use Rattle.line_words.proofs.Prefixes.{after_read, after_spelled}
+use Rattle.header_model.proofs.Lacking.{IsApart, argument_lacks}
 use Rattle.header_model.specs.Words.{IsArgument, joined}
 use Rattle.header_reader.specs.Reading.{all_of, argument_of, arguments_of, later_of}
-use Rattle.header_reader.proofs.Parts.{IsApart, argument_read, argument_spelled, name_lacks, no_more, type_lacks}
-
--- ---- marks that no argument has
-
-pub argument_lacks : (mark : ℕ) (w : Word) (t : CType) → IsApart mark → lacks mark (codes " ") ≡ true → IsArgument w t → lacks mark w ≡ true
-argument_lacks mark w t free blank (text, name, is, typed, named) =
-    rw is (lacks_join mark (text ++ codes " ") name (lacks_join mark text (codes " ") (type_lacks mark text t free blank typed) blank) (name_lacks mark name free.name named))
-
-pub arguments_lack : (mark : ℕ) (args : List Word) (types : List CType) → IsApart mark → lacks mark (codes ", ") ≡ true → lacks mark (codes " ") ≡ true
-    → Each IsArgument args types → lacks mark (joined args) ≡ true
-arguments_lack mark [] types free sep blank h = refl
-arguments_lack mark (w ∷ ws) [] free sep blank h = absurd h
-arguments_lack mark (w ∷ ws) (t ∷ ts) free sep blank h =
-    lacks_join mark w (flat_map (λ v. codes ", " ++ v) ws) (argument_lacks mark w t free blank h.0) (later ws ts h.1)
-  where
-    later : (ws : List Word) (ts : List CType) → Each IsArgument ws ts → lacks mark (flat_map (λ v. codes ", " ++ v) ws) ≡ true
-    later [] ts h = refl
-    later (v ∷ vs) [] h = absurd h
-    later (v ∷ vs) (t ∷ ts) h =
-        lacks_join mark (codes ", " ++ v) (flat_map (λ v. codes ", " ++ v) vs) (lacks_join mark (codes ", ") v sep (argument_lacks mark v t free blank h.0)) (later vs ts h.1)
-
--- ---- behind commas
+use Rattle.header_reader.proofs.Parts.{argument_read, argument_spelled, no_more}
 
 comma : IsApart 44
 comma = record { name = refl; star = refl; ampersand = refl }

@@ -1,7 +1,6 @@
 -- Names, types and arguments: what is read is spelled so, and what is spelled so is read.
-use Rattle.std.proofs.Common.{◌≡◌, ℕ, Bool, true, false, not, cond, eqb, ltb, leb, ◌&&◌, List, [], ◌∷◌, ◌++◌, length, get_or, Some, refl, sym, ap, subst, ◌∙◌, inl, inr, arith, append_assoc}
+use Rattle.std.proofs.Common.{◌≡◌, Bool, true, false, cond, eqb, ◌&&◌, List, [], ◌∷◌, ◌++◌, length, Some, refl, sym, ap, subst, ◌∙◌, inl, inr, arith, append_assoc}
 use Rattle.std.specs.Prelude.{codes, find}
-use Rattle.std.specs.Char.{is_ascii_digit}
 use Rattle.std.specs.List.{list_all}
 use Rattle.std.specs.Str.{bytes_eq}
 use Rattle.std.proofs.lemmas.Bool.{false≢true, eqb-true}
@@ -11,10 +10,10 @@ use Rattle.call_model.specs.declared.ctypes.CType.{CType}
 use Rattle.call_model.specs.declared.ctypes.CType.TheVariants as c
 use Rattle.line_words.specs.Words.{Word, cut_at}
 use Rattle.line_words.proofs.Choices.{both, bound, chosen, ways}
-use Rattle.line_words.proofs.Marks.{all_lack, cut_first, cut_gives, cut_none, lacks, lacks_join, marked}
+use Rattle.line_words.proofs.Marks.{cut_first, cut_gives, cut_none, lacks, lacks_join, marked}
 use Rattle.line_words.proofs.Prefixes.{same_bytes}
-use Rattle.header_model.specs.declared.limits.TheConstants.{MAX_NAME}
-use Rattle.header_model.specs.Words.{IsArgument, IsName, IsPointer, IsType, is_name, is_name_byte, type_word}
+use Rattle.header_model.proofs.Lacking.{IsApart, name_lacks, pointer_lacks}
+use Rattle.header_model.specs.Words.{IsArgument, IsName, IsPointer, IsType, is_name, type_word}
 use Rattle.header_reader.specs.Reading.{argument_of, const_of, is_pointer, name_of, type_of, value_of, value_types}
 
 -- ---- names
@@ -26,18 +25,6 @@ name_read w name is = let read = cond_some (is_name w) w name is in (read.1, sub
 pub name_spelled : (w : Word) → IsName w → name_of w ≡ Some w
 unfolding name_of
 name_spelled w is = rw is refl
-
-pub name_lacks : (mark : ℕ) (w : Word) → is_name_byte mark ≡ false → IsName w → lacks mark w ≡ true
-name_lacks mark w free h =
-    let sized : Bool = ltb 0 (length w) && leb (length w) MAX_NAME in
-    let parts = both (sized && list_all is_name_byte w) (not (is_ascii_digit (get_or w 0 0))) h in
-    all_lack is_name_byte mark w free (both sized (list_all is_name_byte w) parts.0).1
-
--- a mark that stands in no name, and is neither `*` nor `&`
-pub record IsApart (mark : ℕ) : Type 0 where
-  pub name : is_name_byte mark ≡ false
-  pub star : eqb mark 42 ≡ false
-  pub ampersand : lacks mark (codes "&") ≡ true
 
 -- ---- pointers
 
@@ -69,12 +56,6 @@ pointer_spelled w (name, marks, is, named, inr h) =
     let spelled : w ≡ name ++ 38 ∷ [] = is ∙ ap (λ v. name ++ v) h in
     let free : lacks 42 (name ++ 38 ∷ []) ≡ true = lacks_join 42 name (38 ∷ []) (name_lacks 42 name refl named) refl in
     rw (spelled, cut_none 42 (name ++ 38 ∷ []) free, cut_first 38 name [] (name_lacks 38 name refl named), named) refl
-
-pub pointer_lacks : (mark : ℕ) (w : Word) → IsApart mark → IsPointer w → lacks mark w ≡ true
-pointer_lacks mark w free (name, marks, is, named, inl h) =
-    rw is (lacks_join mark name marks (name_lacks mark name free.name named) (all_lack (λ b. eqb b 42) mark marks free.star h.1))
-pointer_lacks mark w free (name, marks, is, named, inr h) =
-    rw (is, h) (lacks_join mark name (codes "&") (name_lacks mark name free.name named) free.ampersand)
 
 -- ---- types
 
@@ -207,21 +188,3 @@ argument_spelled w c.F64 (text, name, is, typed, named) = value_argument w text 
 argument_spelled w c.Bool (text, name, is, typed, named) = value_argument w text name c.Bool refl is typed named
 argument_spelled w c.Char (text, name, is, typed, named) = value_argument w text name c.Char refl is typed named
 argument_spelled w c.WChar (text, name, is, typed, named) = value_argument w text name c.WChar refl is typed named
-
-pub type_lacks : (mark : ℕ) (w : Word) (t : CType) → IsApart mark → lacks mark (codes " ") ≡ true → IsType w t → lacks mark w ≡ true
-type_lacks mark w c.Ptr free blank (inl pointer) = pointer_lacks mark w free pointer
-type_lacks mark w c.Ptr free blank (inr (more, is, pointer)) =
-    rw is (lacks_join mark (codes "const" ++ codes " ") more (lacks_join mark (codes "const") (codes " ") (name_lacks mark (codes "const") free.name refl) blank) (pointer_lacks mark more free pointer))
-type_lacks mark w c.I8 free blank h = rw h (name_lacks mark (type_word c.I8) free.name refl)
-type_lacks mark w c.I16 free blank h = rw h (name_lacks mark (type_word c.I16) free.name refl)
-type_lacks mark w c.I32 free blank h = rw h (name_lacks mark (type_word c.I32) free.name refl)
-type_lacks mark w c.I64 free blank h = rw h (name_lacks mark (type_word c.I64) free.name refl)
-type_lacks mark w c.U8 free blank h = rw h (name_lacks mark (type_word c.U8) free.name refl)
-type_lacks mark w c.U16 free blank h = rw h (name_lacks mark (type_word c.U16) free.name refl)
-type_lacks mark w c.U32 free blank h = rw h (name_lacks mark (type_word c.U32) free.name refl)
-type_lacks mark w c.U64 free blank h = rw h (name_lacks mark (type_word c.U64) free.name refl)
-type_lacks mark w c.F32 free blank h = rw h (name_lacks mark (type_word c.F32) free.name refl)
-type_lacks mark w c.F64 free blank h = rw h (name_lacks mark (type_word c.F64) free.name refl)
-type_lacks mark w c.Bool free blank h = rw h (name_lacks mark (type_word c.Bool) free.name refl)
-type_lacks mark w c.Char free blank h = rw h (name_lacks mark (type_word c.Char) free.name refl)
-type_lacks mark w c.WChar free blank h = rw h (name_lacks mark (type_word c.WChar) free.name refl)
