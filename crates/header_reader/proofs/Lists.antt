@@ -1,4 +1,5 @@
--- The arguments of a function, one after the other, and the lines that no argument breaks.
+-- The arguments of a function, one after the other: what is read is spelled so, and what is spelled
+-- so is read.
 use Rattle.std.proofs.Common.{◌≡◌, ◌<◌, true, false, eqb, List, [], ◌∷◌, ◌++◌, length, map, Some, refl, sym, ap, subst, ◌∙◌, inl, inr, arith, length-append}
 use Rattle.std.specs.Prelude.{codes}
 use Rattle.std.specs.List.{flat_map, join_with_byte, slice_split}
@@ -15,8 +16,6 @@ use Rattle.header_model.proofs.Lacking.{IsApart, argument_lacks}
 use Rattle.header_model.specs.Words.{IsArgument, joined}
 use Rattle.header_reader.specs.Reading.{all_of, argument_of, arguments_of, later_of}
 use Rattle.header_reader.proofs.Parts.{argument_read, argument_spelled, no_more}
-
--- ---- behind commas
 
 comma : IsApart 44
 comma = record { name = refl; star = refl; ampersand = refl }

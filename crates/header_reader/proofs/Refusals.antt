@@ -14,11 +14,11 @@ use Rattle.header_model.specs.declared.states.State.{State}
 use Rattle.header_model.specs.declared.states.State.TheVariants.{Between, Begun, Inside}
 use Rattle.header_model.specs.Declares.{Declares, step, steps}
 use Rattle.header_model.specs.Lines.{IsLine, lines_of}
+use Rattle.header_model.proofs.Lacking.{form_lacks}
 use Rattle.header_reader.specs.Reading.{Comes, finish, line_of, outcome}
 use Rattle.header_reader.specs.declared.error.HeaderReadError.{HeaderReadError}
 use Rattle.header_reader.specs.declared.error.HeaderReadError.TheVariants.{At, Memory}
 use Rattle.header_reader.specs.Refused.{AreBegun, Blames, IsRefused}
-use Rattle.header_model.proofs.Lacking.{form_lacks}
 use Rattle.header_reader.proofs.LineForms.{line_read, line_spelled}
 use Rattle.header_reader.proofs.Outcomes.{lines_first, no_lines}
 
