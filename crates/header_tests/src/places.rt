@@ -126,7 +126,10 @@ fn places_of(rt: &impl Abort, alloc: Global, conv: Conv, text: &str) -> Bytes {
 fn arguments_have_their_places(rt: HostRuntime) {
     for (conv, text, wanted) in &ROWS {
         let found = places_of(&rt, rt.alloc(), *conv, text);
-        assert!(rt; found.as_slice() == wanted.as_bytes(), "of {text}: {found:?}");
+        assert!(rt;
+            found.as_slice() == wanted.as_bytes(),
+            "of {text}: {found:?}"
+        );
     }
 }
 

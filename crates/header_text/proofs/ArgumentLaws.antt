@@ -113,10 +113,19 @@ pub arguments-long : (ifaces : List ScopeIface) (s : Slot) → length (arguments
 arguments-long ifaces s =
     let fronts = map (argument_of ifaces s.kind) (front s.params) in
     let backs = map (argument_of ifaces s.kind) (back s.params) in
-    omega (arith, length-append (first s) (fronts ++ (middle s ++ backs)), length-append fronts (middle s ++ backs), length-append (middle s) backs,
-      length-append (context_if (s.context && is_method s.kind)) (count_if s.argc), context-long (s.context && not (is_method s.kind)),
-      context-long (s.context && is_method s.kind), count-long s.argc, length-map (argument_of ifaces s.kind) (front s.params),
-      length-map (argument_of ifaces s.kind) (back s.params), both-long s.params)
+    omega (
+      arith,
+      length-append (first s) (fronts ++ (middle s ++ backs)),
+      length-append fronts (middle s ++ backs),
+      length-append (middle s) backs,
+      length-append (context_if (s.context && is_method s.kind)) (count_if s.argc),
+      context-long (s.context && not (is_method s.kind)),
+      context-long (s.context && is_method s.kind),
+      count-long s.argc,
+      length-map (argument_of ifaces s.kind) (front s.params),
+      length-map (argument_of ifaces s.kind) (back s.params),
+      both-long s.params,
+    )
 
 arguments-said : (ifaces : List ScopeIface) (s : Slot) → AreNames ifaces → AllByRecursion (IsTold ifaces s.kind) s.params
     → AreSaid (arguments_of ifaces s) (types_in ifaces s)
@@ -128,16 +137,16 @@ arguments-said ifaces s names told =
     let context = cond (s.context && is_method s.kind) (context_arg ∷ []) [] in
     let count = cond s.argc (count_arg ∷ []) [] in
     let split : map passed (first_args s ++ (fronts ++ (middle_args s ++ backs)))
-        ≡ map passed (first_args s) ++ (map passed fronts ++ ((map passed context ++ map passed count) ++ map passed backs)) =
+    ≡ map passed (first_args s) ++ (map passed fronts ++ ((map passed context ++ map passed count) ++ map passed backs)) =
     map-append passed (first_args s) (fronts ++ (middle_args s ++ backs))
     ∙ ap (λ v. map passed (first_args s) ++ v) (map-append passed fronts (middle_args s ++ backs)
     ∙ ap (λ v. map passed fronts ++ v) (map-append passed (middle_args s) backs ∙ ap (λ v. v ++ map passed backs) (map-append passed context count))) in
     let all = said-append (first s) _ (map passed (first_args s)) _ (context-said (s.context && not (is_method s.kind)))
-      (said-append (map (argument_of ifaces s.kind) (front s.params)) _ (map passed fronts) _
-      (params-said ifaces d s (front s.params) names (front-told (IsTold ifaces s.kind) s.params told))
-      (said-append (middle s) _ (map passed context ++ map passed count) _
-      (said-append (context_if (s.context && is_method s.kind)) (count_if s.argc) (map passed context) (map passed count) (context-said (s.context && is_method s.kind)) (count-said s.argc))
-      (params-said ifaces d s (back s.params) names (back-told (IsTold ifaces s.kind) s.params told)))) in
+    (said-append (map (argument_of ifaces s.kind) (front s.params)) _ (map passed fronts) _
+    (params-said ifaces d s (front s.params) names (front-told (IsTold ifaces s.kind) s.params told))
+    (said-append (middle s) _ (map passed context ++ map passed count) _
+    (said-append (context_if (s.context && is_method s.kind)) (count_if s.argc) (map passed context) (map passed count) (context-said (s.context && is_method s.kind)) (count-said s.argc))
+    (params-said ifaces d s (back s.params) names (back-told (IsTold ifaces s.kind) s.params told)))) in
     subst (λ v. AreSaid (arguments_of ifaces s) v) (sym split) all
 
 -- each with its position

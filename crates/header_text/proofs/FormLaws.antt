@@ -105,10 +105,14 @@ class-form ifaces k (Some p) names within above = (refl, named-at ifaces k names
 
 class-forms : (ifaces : List ScopeIface) (k : ℕ) → AreNames ifaces → IsToldClass ifaces k → Each IsForm (class_lines ifaces k) (class_said ifaces k)
 unfolding class_lines
-class-forms ifaces k names told =
-    (class-form ifaces k (parent_of ifaces k) names told.within told.parent, (refl,
-      each-append (map (slot_line ifaces) (enumerate_from (length (inherited ifaces k)) (own_of ifaces k))) (codes "};" ∷ []) _ (lines.Close ∷ [])
-      (slots-forms ifaces (length (inherited ifaces k)) (own_of ifaces k) names told.room told.slots) (refl, refl)))
+class-forms ifaces k names told = (
+  class-form ifaces k (parent_of ifaces k) names told.within told.parent,
+  (
+    refl,
+    each-append (map (slot_line ifaces) (enumerate_from (length (inherited ifaces k)) (own_of ifaces k))) (codes "};" ∷ []) _ (lines.Close ∷ [])
+        (slots-forms ifaces (length (inherited ifaces k)) (own_of ifaces k) names told.room told.slots) (refl, refl),
+  ),
+)
 
 classes-forms : (ifaces : List ScopeIface) (ks : List ℕ) → AreNames ifaces → AllByRecursion (IsToldClass ifaces) ks
     → Each IsForm (flat_map (class_lines ifaces) ks) (flat_map (class_said ifaces) ks)

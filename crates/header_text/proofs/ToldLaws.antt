@@ -81,12 +81,14 @@ body-told ifaces name (body.Attribute hidden notxpcom context readonly ty) word 
 body-told ifaces name (body.Method hidden notxpcom argc context returns ps) word params ok narrow =
     let s = method name hidden notxpcom argc context returns ps in
     let each : AllByRecursion (IsTold ifaces kind.Plain) ps = by_each (IsTold ifaces kind.Plain) ps (λ k p is.
-      let n = given-word p.name (word-name p.name (params k p is)) in record { typed = (ok.each k p is).typed; short = n.short; bytes = n.bytes }) in
-    (record {
-      named = word;
-      params = both_parts (IsTold ifaces kind.Plain) ps (given notxpcom returns) each (returned-told ifaces notxpcom returns ok.returned);
-      narrow = narrow-slot s narrow;
-    }, tt)
+    let n = given-word p.name (word-name p.name (params k p is)) in record { typed = (ok.each k p is).typed; short = n.short; bytes = n.bytes }) in (
+      record {
+        named = word;
+        params = both_parts (IsTold ifaces kind.Plain) ps (given notxpcom returns) each (returned-told ifaces notxpcom returns ok.returned);
+        narrow = narrow-slot s narrow;
+      },
+      tt,
+    )
 
 members-told : (ifaces : List ScopeIface) (ms : List ScopeMember)
     → ((k : ℕ) (m : ScopeMember) → slice_get ms k ≡ Some m → AllByRecursion (IsToldSlot ifaces) (slots_of_member m))
@@ -138,6 +140,7 @@ module _ (s : Scope) (ok : IsAcceptedScope s) (limits : KeepsLimits s) where
       found : (o : Option ScopeIface) → slice_get s.ifaces p ≡ o → IsSomeAnd o (λ q. IsTrue q.defined) → p < length s.ifaces
       found None e h = absurd h
       found (Some q) e h = slice_get_within s.ifaces p q e
+
       go : (o : Option ScopeIface) → slice_get s.ifaces k ≡ o → option_and_then (λ (i : ScopeIface). i.parent) o ≡ Some p → p < length s.ifaces
       go None e is = absurd (none-some p is)
       go (Some i) e is = found (slice_get s.ifaces p) refl ((ok.each k i e).extends p is)
@@ -146,8 +149,8 @@ module _ (s : Scope) (ok : IsAcceptedScope s) (limits : KeepsLimits s) where
   own-told k None e = tt
   own-told k (Some i) e =
       members-told s.ifaces i.members (λ n m is.
-        body-told s.ifaces m.name m.body (word-name m.name ((ok.lawful k i e).members_named n m is)) ((ok.lawful k i e).params_named n m is)
-        ((ok.each k i e).members n m is) (rw (e, is) at (limits.narrow k n)))
+      body-told s.ifaces m.name m.body (word-name m.name ((ok.lawful k i e).members_named n m is)) ((ok.lawful k i e).params_named n m is)
+      ((ok.each k i e).members n m is) (rw (e, is) at (limits.narrow k n)))
 
   class-told : (k : ℕ) → k < length s.ifaces → IsToldClass s.ifaces k
   class-told k within =

@@ -46,15 +46,19 @@ star-after : (stars : Word) → list_all (λ b. eqb b 42) stars ≡ true → lis
 star-after stars all = list_all-append (λ b. eqb b 42) stars (codes "*") ∙ rw all refl
 
 pointed : (w : Word) → IsStarred w → IsPointer (pointer_to w)
-pointed w s =
-    (s.name, s.stars ++ codes "*", ap (λ v. v ++ codes "*") s.is ∙ append_assoc s.name s.stars (codes "*"), s.named,
-      inl (omega (arith, length-append s.stars (codes "*")), star-after s.stars s.all))
+pointed w s = (
+  s.name,
+  s.stars ++ codes "*",
+  ap (λ v. v ++ codes "*") s.is ∙ append_assoc s.name s.stars (codes "*"),
+  s.named,
+  inl (omega (arith, length-append s.stars (codes "*")), star-after s.stars s.all),
+)
 
 pointer-base : (w : Word) → IsStarred w → IsBase (pointer_to w) c.Ptr
 pointer-base w s = record {
   typed = inl (pointed w s);
   starred =
-    record { name = s.name; stars = s.stars ++ codes "*"; is = ap (λ v. v ++ codes "*") s.is ∙ append_assoc s.name s.stars (codes "*"); named = s.named; all = star-after s.stars s.all };
+      record { name = s.name; stars = s.stars ++ codes "*"; is = ap (λ v. v ++ codes "*") s.is ∙ append_assoc s.name s.stars (codes "*"); named = s.named; all = star-after s.stars s.all };
 }
 
 name-base : (name : Word) → IsName name → IsBase (pointer_to name) c.Ptr
@@ -87,6 +91,7 @@ basic-is tag = by_string (eqb tag tags.STRING) refl
     by_wide : (t : Bool) → eqb tag tags.WSTRING ≡ t → IsBase (cond t (codes "char16_t*") (type_word (type_of_tag tag))) (type_of_tag tag)
     by_wide true e = subst (λ k. IsBase (codes "char16_t*") (type_of_tag k)) (sym (eqb-true tag tags.WSTRING e)) (name-base (codes "char16_t") refl)
     by_wide false e = word-base (type_of_tag tag)
+
     by_string : (t : Bool) → eqb tag tags.STRING ≡ t
         → IsBase (cond t (codes "char*") (cond (eqb tag tags.WSTRING) (codes "char16_t*") (type_word (type_of_tag tag)))) (type_of_tag tag)
     by_string true e = subst (λ k. IsBase (codes "char*") (type_of_tag k)) (sym (eqb-true tag tags.STRING e)) (name-base (codes "char") refl)
@@ -119,6 +124,7 @@ class-is tag dir = by_dir (is_in dir) (eqb tag tags.DOMSTRING || eqb tag tags.AS
     wide : (wide : Bool) → IsPointer (cond wide (codes "nsAString&") (codes "nsACString&"))
     wide true = (codes "nsAString", codes "&", refl, refl, inr refl)
     wide false = (codes "nsACString", codes "&", refl, refl, inr refl)
+
     by_dir : (inward wide : Bool)
         → IsType (cond inward (codes "const " ++ cond wide (codes "nsAString&") (codes "nsACString&")) (cond wide (codes "nsAString&") (codes "nsACString&"))) c.Ptr
     by_dir true w = inr (cond w (codes "nsAString&") (codes "nsACString&"), refl, wide w)
