@@ -1,10 +1,10 @@
 -- The arguments of a function in a header mean the types of the prototype.
-use Rattle.std.proofs.Common.{◌≡◌, ℕ, suc, ◌+◌, ◌<◌, ◌≤◌, Bool, true, false, cond, ◌&&◌, not, List, [], ◌∷◌, ◌++◌, length, map, Option, Some, None, refl, sym, ap, subst, ◌∙◌, inl, inr, arith, length-append}
+use Rattle.std.proofs.Common.{◌≡◌, ℕ, suc, ◌+◌, ◌≤◌, Bool, true, false, cond, ◌&&◌, not, List, [], ◌∷◌, ◌++◌, length, map, refl, sym, ap, subst, ◌∙◌, inl, arith, length-append}
 use Rattle.std.specs.Prelude.{codes}
 use Rattle.std.specs.List.{AllByRecursion, enumerate_from, list_all}
+use Rattle.std.proofs.lemmas.List.{length-map, map-append}
 use Rattle.call_model.specs.declared.ctypes.CType.{CType}
 use Rattle.call_model.specs.declared.prototypes.MemberKind.{MemberKind}
-use Rattle.call_model.specs.declared.prototypes.MemberKind.TheVariants as kind
 use Rattle.call_model.specs.declared.prototypes.ProtoArg.{ProtoArg}
 use Rattle.call_model.specs.Prototype.{passed_type}
 use Rattle.idl_meaning.specs.declared.scope.ScopeIface.{ScopeIface}
@@ -14,10 +14,10 @@ use Rattle.lib_model.specs.Table.{context_arg, count_arg}
 use Rattle.vtable_layout.specs.Slots.{Slot}
 use Rattle.prototype_lowering.specs.Directory.{directory_of}
 use Rattle.prototype_lowering.specs.StaticTable.{arg_of, back, first as first_args, front, is_method, middle as middle_args, proto_of}
-use Rattle.line_words.specs.Words.{Each, Word}
+use Rattle.line_words.specs.Words.{Each}
 use Rattle.header_model.specs.Words.{IsArgument, IsType, is_name_byte}
 use Rattle.header_text.specs.declared.arguments.Argument.{Argument}
-use Rattle.header_text.specs.Header.{argument_of, argument_text, arguments_of, context_if, count_if, first, given_name, middle, name_of}
+use Rattle.header_text.specs.Header.{argument_of, argument_text, arguments_of, context_if, count_if, first, middle, name_of}
 use Rattle.header_text.specs.Meaning.{types_in}
 use Rattle.header_text.proofs.NameLaws.{placed-name}
 use Rattle.header_text.proofs.TypeLaws.{AreNames, type-is}
@@ -47,10 +47,6 @@ unfolding AreSaid
 said-append [] bs ts us one two = subst (λ v. AreSaid bs (v ++ us)) (sym one) two
 said-append (a ∷ xs) bs [] us one two = absurd one
 said-append (a ∷ xs) bs (t ∷ ts) us one two = (one.0, said-append xs bs ts us one.1 two)
-
-map-append : {A B : Type 0} (f : A → B) (xs ys : List A) → map f (xs ++ ys) ≡ map f xs ++ map f ys
-map-append f [] ys = refl
-map-append f (x ∷ xs) ys = ap (λ zs. f x ∷ zs) (map-append f xs ys)
 
 params-said : (ifaces : List ScopeIface) (d : List ℕ) (s : Slot) (ps : List ScopeParam) → AreNames ifaces → AllByRecursion (IsTold ifaces s.kind) ps
     → AreSaid (map (argument_of ifaces s.kind) ps) (map passed (map (arg_of d s) ps))
@@ -105,10 +101,6 @@ count-long : (b : Bool) → length (count_if b) ≤ 1
 count-long true = omega arith
 count-long false = omega arith
 
-length-map : {A B : Type 0} (f : A → B) (xs : List A) → length (map f xs) ≡ length xs
-length-map f [] = refl
-length-map f (x ∷ xs) = ap suc (length-map f xs)
-
 pub arguments-long : (ifaces : List ScopeIface) (s : Slot) → length (arguments_of ifaces s) ≤ length s.params + 3
 arguments-long ifaces s =
     let fronts = map (argument_of ifaces s.kind) (front s.params) in
@@ -122,8 +114,8 @@ arguments-long ifaces s =
       context-long (s.context && not (is_method s.kind)),
       context-long (s.context && is_method s.kind),
       count-long s.argc,
-      length-map (argument_of ifaces s.kind) (front s.params),
-      length-map (argument_of ifaces s.kind) (back s.params),
+      length-map (front s.params) (argument_of ifaces s.kind),
+      length-map (back s.params) (argument_of ifaces s.kind),
       both-long s.params,
     )
 

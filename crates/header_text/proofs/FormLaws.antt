@@ -1,28 +1,13 @@
 -- Each line of the header of an accepted scope says what it is to say.
-use Rattle.std.proofs.Common.{◌≡◌, ℕ, zero, suc, ◌+◌, ◌<◌, ◌≤◌, Bool, true, false, not, cond, eqb, List, [], ◌∷◌, ◌++◌, length, map, Option, Some, None, IsSomeAnd, IsTrue, refl, sym, ap, subst, ◌∙◌, inl, inr, arith, length-append, get_or, slice_get, All}
+use Rattle.std.proofs.Common.{◌≡◌, ℕ, ◌+◌, ◌<◌, ◌≤◌, true, not, eqb, List, [], ◌∷◌, ◌++◌, length, map, Option, Some, None, refl, sym, ap, subst, ◌∙◌, arith}
 use Rattle.std.specs.Prelude.{codes, option_map}
-use Rattle.std.specs.List.{AllByRecursion, enumerate_from, flat_map, list_all}
-use Rattle.std.specs.Fmt.{decimal}
-use Rattle.std.proofs.lemmas.Bool.{false≢true, eqb-true, ltb-false}
+use Rattle.std.specs.List.{AllByRecursion, enumerate_from, flat_map}
 use Rattle.std.proofs.lemmas.List.{append_assoc}
-use Rattle.std.proofs.lemmas.Option.{none-some, same_Some}
-use Rattle.std_collections.specs.Map.{values_of}
-use Rattle.std.proofs.lemmas.Map.Views.{All-values-insert_entry}
-use Rattle.call_model.specs.declared.prototypes.MemberKind.{MemberKind}
-use Rattle.call_model.specs.declared.prototypes.MemberKind.TheVariants as kind
 use Rattle.call_model.specs.declared.prototypes.Status.{Status}
 use Rattle.call_model.specs.declared.prototypes.Status.TheVariants.{Callable, Hidden, NotXpcom, Opaque}
-use Rattle.idl_meaning.specs.declared.scope.Meant.{Meant}
 use Rattle.idl_meaning.specs.declared.scope.Scope.{Scope}
-use Rattle.idl_meaning.specs.declared.scope.ScopeBody.{ScopeBody}
-use Rattle.idl_meaning.specs.declared.scope.ScopeBody.TheVariants as body
 use Rattle.idl_meaning.specs.declared.scope.ScopeIface.{ScopeIface}
-use Rattle.idl_meaning.specs.declared.scope.ScopeMember.{ScopeMember}
-use Rattle.idl_meaning.specs.declared.scope.ScopeParam.{ScopeParam}
-use Rattle.idl_meaning.specs.Accepted.{IsAcceptedScope}
-use Rattle.vtable_layout.specs.Layout.{has_too_many}
-use Rattle.vtable_layout.specs.Slots.{Slot, inherited, own_of, own_slots, parent_of, slots_of, slots_of_member}
-use Rattle.prototype_lowering.specs.Limits.{KeepsLimits}
+use Rattle.vtable_layout.specs.Slots.{Slot, inherited, own_of, parent_of}
 use Rattle.prototype_lowering.specs.StaticTable.{status_of}
 use Rattle.line_words.specs.Words.{Each, Word}
 use Rattle.line_words.proofs.Choices.{both, not_true}
@@ -33,7 +18,7 @@ use Rattle.header_model.specs.Lines.{IsForm, IsLine, begun, lines_of}
 use Rattle.header_model.specs.Words.{IsName}
 use Rattle.header_model.proofs.Lacking.{form_lacks}
 use Rattle.header_text.specs.Types.{name_at}
-use Rattle.header_text.specs.Order.{definitions_of, placed, spot_cmp, spot_of}
+use Rattle.header_text.specs.Order.{definitions_of}
 use Rattle.header_text.specs.Header.{arguments_text, class_line, class_lines, ended, forward_line, header_lines, header_text, line_by, slot_line}
 use Rattle.header_text.proofs.NameLaws.{IsNameOf, member-name, name-made, small-digits}
 use Rattle.header_text.proofs.TypeLaws.{AreNames}

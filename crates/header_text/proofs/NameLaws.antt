@@ -1,7 +1,7 @@
 -- The names of a header: words of the language, with what a header puts before them, are names.
-use Rattle.std.proofs.Common.{◌≡◌, ℕ, zero, suc, ◌+◌, ◌<◌, ◌≤◌, Bool, true, false, not, cond, eqb, ltb, leb, ◌&&◌, ◌||◌, List, [], ◌∷◌, ◌++◌, length, get_or, refl, sym, ap, subst, ◌∙◌, inl, inr, arith, length-append}
+use Rattle.std.proofs.Common.{◌≡◌, ℕ, zero, suc, ◌+◌, ◌<◌, ◌≤◌, Bool, true, false, eqb, ltb, leb, ◌&&◌, [], ◌∷◌, ◌++◌, length, get_or, refl, sym, ap, subst, ◌∙◌, arith, length-append}
 use Rattle.std.specs.Prelude.{codes}
-use Rattle.std.specs.Char.{is_ascii_digit, is_ascii_alphabetic, is_ascii_alphanumeric, to_ascii_uppercase}
+use Rattle.std.specs.Char.{is_ascii_digit, to_ascii_uppercase}
 use Rattle.std.specs.Fmt.{decimal, digits}
 use Rattle.std.specs.List.{list_all}
 use Rattle.std.proofs.lemmas.Bool.{false≢true, eqb-true, eq-eqb, leb-true, le-leb, lt-ltb}
@@ -9,15 +9,15 @@ use Rattle.std.proofs.lemmas.List.{append-nil}
 use Rattle.std.proofs.lemmas.List.Folds.{list_all-append}
 use Rattle.idl_lexer.specs.declared.class.Class.TheVariants.{NameStart, NameByte}
 use Rattle.idl_lexer.specs.Classes.{is_in}
-use Rattle.idl_lexer.specs.Parts.{is_name as is_lexed_name, is_word}
+use Rattle.idl_lexer.specs.Parts.{is_name as is_lexed_name}
 use Rattle.idl_lexer.specs.Spelling.{IsWord}
 use Rattle.idl_lexer.proofs.ByteLaws.{word-tests}
 use Rattle.idl_grammar.specs.Trees.{IsName as IsWordName}
 use Rattle.call_model.specs.declared.prototypes.MemberKind.{MemberKind}
 use Rattle.call_model.specs.declared.prototypes.MemberKind.TheVariants as kind
 use Rattle.line_words.specs.Words.{Word}
-use Rattle.line_words.proofs.Choices.{both, not_true}
-use Rattle.header_model.specs.Words.{IsName, is_name, is_name_byte}
+use Rattle.line_words.proofs.Choices.{both}
+use Rattle.header_model.specs.Words.{IsName, is_name_byte}
 use Rattle.header_text.specs.Header.{capital, member_name, placed_name}
 
 -- what makes a word a name, of at most so many bytes

@@ -1,7 +1,7 @@
 -- The lines of a header follow each other, and behind all of them its classes have begun and ended.
-use Rattle.std.proofs.Common.{◌≡◌, ℕ, ◌+◌, ◌<◌, ◌≤◌, Bool, true, false, cond, List, [], ◌∷◌, ◌++◌, length, map, Option, Some, None, refl, sym, ap, ◌∙◌, subst, arith, length-append, All}
+use Rattle.std.proofs.Common.{◌≡◌, ℕ, ◌+◌, ◌<◌, ◌≤◌, true, List, [], ◌∷◌, ◌++◌, length, map, Option, Some, None, refl, sym, ap, ◌∙◌, arith, length-append, All}
 use Rattle.std.specs.Prelude.{nat_lt, nat_le, option_map}
-use Rattle.std.specs.List.{enumerate_from, flat_map, list_any}
+use Rattle.std.specs.List.{enumerate_from, flat_map}
 use Rattle.std.specs.Option.{option_map_or}
 use Rattle.std.specs.Fmt.{decimal}
 use Rattle.std.specs.Str.{bytes_eq}
@@ -23,7 +23,7 @@ use Rattle.header_model.specs.declared.lines.Line.{Line}
 use Rattle.header_model.specs.declared.lines.Line.TheVariants as lines
 use Rattle.header_model.specs.declared.states.State.{State}
 use Rattle.header_model.specs.declared.states.State.TheVariants.{Between, Begun, Inside}
-use Rattle.header_model.specs.Declares.{class_begun, decl_of, has_name, step, steps, with_slot}
+use Rattle.header_model.specs.Declares.{class_begun, step, steps, with_slot}
 use Rattle.header_text.specs.Types.{name_at}
 use Rattle.header_text.specs.Order.{definitions_of}
 use Rattle.header_text.specs.Meaning.{class_number, declared, declared_by, declared_class, declared_slot, types_in}

@@ -1,32 +1,29 @@
 -- What the header of an accepted scope needs to know of its interfaces, members and parameters.
-use Rattle.std.proofs.Common.{◌≡◌, ℕ, zero, suc, ◌+◌, ◌<◌, ◌≤◌, Bool, true, false, cond, ◌||◌, nat_lt, List, [], ◌∷◌, ◌++◌, length, map, Option, Some, None, IsSomeAnd, IsTrue, refl, sym, ap, subst, ◌∙◌, inl, inr, arith, length-append, slice_get, All, option_and_then}
+use Rattle.std.proofs.Common.{◌≡◌, ℕ, zero, suc, ◌+◌, ◌<◌, ◌≤◌, Bool, true, false, cond, ◌||◌, nat_lt, List, [], ◌∷◌, length, Option, Some, None, IsSomeAnd, IsTrue, refl, sym, ap, arith, length-append, slice_get, All, option_and_then}
 use Rattle.std.specs.List.{AllByRecursion, flat_map, list_all, list_any}
 use Rattle.std.proofs.lemmas.Bool.{false≢true, ltb-false}
 use Rattle.std.proofs.lemmas.List.Elements.{All-head, All-nil, All-tail}
-use Rattle.std.proofs.lemmas.Option.{none-some, same_Some, slice_get_past, slice_get_within}
+use Rattle.std.proofs.lemmas.Option.{none-some, slice_get_within}
 use Rattle.std.proofs.lemmas.Map.Views.{All-values-insert_entry}
 use Rattle.std_collections.specs.BTreeMap.{insert_entry}
 use Rattle.std_collections.specs.Map.{values_of}
 use Rattle.call_model.specs.declared.prototypes.MemberKind.TheVariants as kind
-use Rattle.idl_grammar.specs.Trees.{IsName as IsWordName}
 use Rattle.idl_meaning.specs.declared.scope.Meant.{Meant}
 use Rattle.idl_meaning.specs.declared.scope.Scope.{Scope}
 use Rattle.idl_meaning.specs.declared.scope.ScopeBody.{ScopeBody}
 use Rattle.idl_meaning.specs.declared.scope.ScopeBody.TheVariants as body
 use Rattle.idl_meaning.specs.declared.scope.ScopeIface.{ScopeIface}
 use Rattle.idl_meaning.specs.declared.scope.ScopeMember.{ScopeMember}
-use Rattle.idl_meaning.specs.declared.scope.ScopeParam.{ScopeParam}
 use Rattle.idl_meaning.specs.Accepted.{HasNamedParams, IsAcceptedBody, IsAcceptedScope, IsGiven, IsResult}
-use Rattle.vtable_layout.specs.Slots.{Slot, given, getter, given_param, inherited, method, own_in, own_of, own_slots, parent_of, setter, slots_in, slots_of, slots_of_member, value_param}
+use Rattle.vtable_layout.specs.Slots.{Slot, given, given_param, inherited, method, own_in, own_of, parent_of, setter, slots_in, slots_of_member}
 use Rattle.vtable_layout.proofs.Climbing.{few_slots, parts}
 use Rattle.prototype_lowering.specs.Limits.{KeepsLimits, is_wide_slot}
 use Rattle.prototype_lowering.proofs.ScopeFacts.{both_parts, by_each}
 use Rattle.line_words.specs.Words.{Each, Word}
 use Rattle.header_model.specs.Lines.{IsLine, lines_of}
 use Rattle.header_model.specs.Words.{is_name_byte}
-use Rattle.header_text.specs.Types.{name_at}
 use Rattle.header_text.specs.Order.{Spot, definitions_of, placed, spot_cmp, spot_of}
-use Rattle.header_text.specs.Header.{given_name, header_text, name_of}
+use Rattle.header_text.specs.Header.{given_name, header_text}
 use Rattle.header_text.proofs.NameLaws.{IsNameOf, word-name}
 use Rattle.header_text.proofs.TypeLaws.{AreNames}
 use Rattle.header_text.proofs.ArgumentLaws.{IsTold}

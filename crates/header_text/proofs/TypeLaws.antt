@@ -1,5 +1,5 @@
 -- The C++ type of an argument means its C type.
-use Rattle.std.proofs.Common.{◌≡◌, ℕ, ◌+◌, ◌<◌, ◌≤◌, Bool, true, false, cond, eqb, ◌&&◌, ◌||◌, not, List, [], ◌∷◌, ◌++◌, length, Option, Some, None, refl, sym, ap, subst, ◌∙◌, inl, inr, arith, length-append}
+use Rattle.std.proofs.Common.{◌≡◌, ℕ, ◌<◌, Bool, true, false, cond, eqb, ◌||◌, List, [], ◌++◌, length, Option, Some, None, refl, sym, ap, subst, ◌∙◌, inl, inr, arith, length-append}
 use Rattle.std.specs.Prelude.{codes}
 use Rattle.std.specs.List.{list_all}
 use Rattle.std.proofs.lemmas.Bool.{eqb-true}
@@ -21,8 +21,8 @@ use Rattle.lib_model.specs.declared.tags.TheConstants as tags
 use Rattle.lib_model.specs.Table.{type_of_tag}
 use Rattle.prototype_lowering.specs.StaticTable.{c_type, pass_of}
 use Rattle.line_words.specs.Words.{Word}
-use Rattle.header_model.specs.Words.{AreMarks, IsName, IsPointer, IsType, type_word}
-use Rattle.header_text.specs.Types.{base_alone, base_of, basic_base, class_reference, class_type, name_at, pointer_to, referred_type, type_by, type_text}
+use Rattle.header_model.specs.Words.{IsName, IsPointer, IsType, type_word}
+use Rattle.header_text.specs.Types.{base_alone, base_of, basic_base, class_type, name_at, pointer_to, referred_type, type_by, type_text}
 use Rattle.header_text.proofs.NameLaws.{IsNameOf, name-made}
 
 -- the interfaces of a scope have names
