@@ -42,7 +42,7 @@ pub record AreEntries (ifaces : List ScopeIface) (es : List Entry) : Type 0 wher
 
 -- ---- places
 
-below-trans : (a b c : Spot) → IsBelow a b → IsBelow b c → IsBelow a c
+pub below-trans : (a b c : Spot) → IsBelow a b → IsBelow b c → IsBelow a c
 below-trans a b c (inl x) (inl y) = inl (omega (arith, x, y))
 below-trans a b c (inl x) (inr y) = inl (let same = y.0 in omega (arith, x, same))
 below-trans a b c (inr x) (inl y) = inl (let same = x.0 in omega (arith, y, same))
