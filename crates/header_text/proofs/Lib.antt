@@ -1,3 +1,5 @@
+pub mod FitLaws
+pub mod OrderLaws
 pub mod Said
 pub mod NameLaws
 pub mod TypeLaws
