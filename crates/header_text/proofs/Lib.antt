@@ -1,3 +1,4 @@
 pub mod Said
 pub mod NameLaws
 pub mod StepLaws
+pub mod PlaceLaws
