@@ -1,13 +1,13 @@
 -- The classes that a text declares keep the limits of a header, so that their functions have
 -- places.
-use Rattle.std.proofs.Common.{◌≡◌, ◌×◌, ◌⊎◌, ℕ, ◌+◌, ◌<◌, ◌≤◌, Bool, true, false, List, [], ◌∷◌, ◌++◌, length, get_or, Option, Some, None, refl, inl, inr, subst, arith, length-append, All}
+use Rattle.std.proofs.Common.{◌≡◌, ◌⊎◌, ℕ, ◌+◌, ◌<◌, ◌≤◌, Bool, true, false, List, [], ◌∷◌, ◌++◌, length, get_or, Option, Some, None, refl, inl, inr, subst, arith, length-append, All}
 use Rattle.std.specs.Prelude.{◌==◌, nat_lt, nat_le, option_map, position, slice_get, if◌then◌else◌}
 use Rattle.std.specs.List.{list_any}
 use Rattle.std.specs.Option.{option_map_or}
 use Rattle.std.specs.Fmt.{decimal}
 use Rattle.std.specs.Str.{bytes_eq}
 use Rattle.std.proofs.lemmas.Bool.{eqb-true, leb-true, ltb-true}
-use Rattle.std.proofs.lemmas.List.Elements.{All-append, All-get_or, All-nil}
+use Rattle.std.proofs.lemmas.List.Elements.{All-get_or, All-nil, All-push}
 use Rattle.std.proofs.lemmas.Option.{none-some, same_Some, slice_get_cases}
 use Rattle.call_model.specs.declared.ctypes.CType.{CType}
 use Rattle.line_words.specs.Words.{Word}
@@ -22,7 +22,7 @@ use Rattle.header_model.specs.Declares.{Declares, class_begun, decl_of, has_name
 use Rattle.header_text.specs.Placeable.{IsNarrow, IsPlaceable}
 
 -- each class so far keeps the limits, and so does the one that has begun
-Keeps : State → Type 0
+abbrev Keeps : State → Type 0
 Keeps (Between decls) = All IsPlaceable decls
 Keeps (Begun decls d) = All IsPlaceable decls × IsPlaceable d
 Keeps (Inside decls d) = All IsPlaceable decls × IsPlaceable d
@@ -44,7 +44,7 @@ keeps-slot decls d slot to keeps narrow h =
     let parts = guarded (nat_lt (next_slot d) 250) (Some (Inside decls longer)) to h in
     let placeable : IsPlaceable longer = record {
       room = omega (arith, ltb-true (next_slot d) 250 parts.0, length-append d.slots (slot ∷ []));
-      narrow = All-append IsNarrow d.slots (slot ∷ []) keeps.1.narrow (narrow, All-nil IsNarrow);
+      narrow = All-push IsNarrow d.slots slot keeps.1.narrow narrow;
     } in
     subst Keeps (same_Some (Inside decls longer) to parts.1) (keeps.0, placeable)
 
@@ -96,12 +96,12 @@ keeps-step (Inside decls d) lines.Forward to keeps h = absurd (none-some to h)
 keeps-step (Inside decls d) (lines.Class name parent) to keeps h = absurd (none-some to h)
 keeps-step (Inside decls d) lines.Public to keeps h = absurd (none-some to h)
 keeps-step (Inside decls d) (lines.Reserved number) to keeps h =
-    keeps-slot decls d slots.Reserved to keeps unit (guarded (bytes_eq number (decimal (next_slot d))) (with_slot decls d slots.Reserved) to h).1
+    keeps-slot decls d slots.Reserved to keeps tt (guarded (bytes_eq number (decimal (next_slot d))) (with_slot decls d slots.Reserved) to h).1
 keeps-step (Inside decls d) (lines.Method name types) to keeps h =
     let parts = guarded (nat_le (length types) 257) (with_slot decls d (slots.Method name types)) to h in
     keeps-slot decls d (slots.Method name types) to keeps (leb-true (length types) 257 parts.0) parts.1
 keeps-step (Inside decls d) lines.Close to keeps h =
-    subst Keeps (same_Some (Between (decls ++ d ∷ [])) to h) (All-append IsPlaceable decls (d ∷ []) keeps.0 (keeps.1, All-nil IsPlaceable))
+    subst Keeps (same_Some (Between (decls ++ d ∷ [])) to h) (All-push IsPlaceable decls d keeps.0 keeps.1)
 
 keeps-steps : (said : List Line) (from to : State) → Keeps from → steps from said ≡ Some to → Keeps to
 keeps-steps [] from to keeps h = subst Keeps (same_Some from to h) keeps

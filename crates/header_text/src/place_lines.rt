@@ -38,6 +38,7 @@ pub fn places(alloc: Global, conv: Conv, decls: &List<Decl>) -> Result<Bytes, Me
 }
 
 /// The places under the convention of a walk.
+#[tactic(auto, unfolding(crate::specs::PlacesText::places_text))]
 fn places_by<C: Convention>(alloc: Global, decls: &[Decl]) -> Result<Bytes, Memory>
     requires { All IsPlaceable decls.now }
     ensures { IfOk result (λ text. text ≡ places_text C.CONV decls.now) }
@@ -50,6 +51,7 @@ fn places_by<C: Convention>(alloc: Global, decls: &[Decl]) -> Result<Bytes, Memo
 }
 
 /// Adds the lines of a class.
+#[tactic(auto, unfolding(crate::specs::PlacesText::decl_text))]
 fn push_decl<C: Convention>(alloc: Global, text: &mut Bytes, decl: &Decl) -> Result<(), Memory>
     requires { IsPlaceable decl.now }
     ensures { OnOk result (text.new ≡ text.old ++ decl_text C.CONV decl.now) }
