@@ -7,3 +7,4 @@ pub mod ArgumentLaws
 pub mod FormLaws
 pub mod ToldLaws
 pub mod StepLaws
+pub mod PlaceLaws

@@ -4,5 +4,7 @@
 
 mod arguments;
 mod errors;
+mod place_lines;
 
 pub use errors::HeaderWriteError;
+pub use place_lines::places;
