@@ -1,5 +1,5 @@
 -- The classes of an accepted scope may follow each other in the order of their definitions.
-use Rattle.std.proofs.Common.{◌≡◌, ◌⊎◌, inl, inr, ℕ, zero, suc, ◌+◌, ◌<◌, ◌≤◌, ◌&&◌, ◌||◌, not, Bool, true, false, cond, List, [], ◌∷◌, ◌++◌, length, map, drop, Option, Some, None, IsTrue, IsSomeAnd, refl, sym, ap, ◌∙◌, subst, arith, nat_lt, nat_eq, slice_get, ltb-false, lt-ltb, eqb-true, length-append, option_map, option_and_then, All, if◌then◌else◌}
+use Rattle.std.proofs.Common.{◌≡◌, ◌⊎◌, inl, inr, ℕ, suc, ◌+◌, ◌<◌, ◌≤◌, ◌&&◌, ◌||◌, not, Bool, true, false, cond, List, [], ◌∷◌, ◌++◌, length, map, Option, Some, None, IsSomeAnd, refl, sym, ap, ◌∙◌, subst, arith, nat_lt, nat_eq, slice_get, ltb-false, lt-ltb, eqb-true, length-append, option_map, option_and_then, All, if◌then◌else◌}
 use Rattle.std.specs.Prelude.{position}
 use Rattle.std.specs.Option.{option_map_or}
 use Rattle.std.specs.Bool.{one_answer}
@@ -11,13 +11,13 @@ use Rattle.std.proofs.lemmas.List.{append_assoc, length-map, map-append}
 use Rattle.std.proofs.lemmas.Option.{slice_get_within}
 use Rattle.std.proofs.lemmas.Slice.Eq.{bytes_eq-Decides}
 use Rattle.std_collections.specs.Map.{values_of}
-use Rattle.call_model.specs.Prototype.{passed_type, types_of}
+use Rattle.call_model.specs.Prototype.{passed_type}
 use Rattle.call_model.specs.declared.prototypes.ProtoArg.{ProtoArg}
 use Rattle.idl_meaning.specs.declared.scope.Scope.{Scope}
 use Rattle.idl_meaning.specs.declared.scope.ScopeIface.{ScopeIface}
 use Rattle.idl_meaning.specs.declared.scope.ScopeMember.{ScopeMember}
 use Rattle.idl_meaning.specs.declared.scope.ScopeParam.{ScopeParam}
-use Rattle.idl_meaning.specs.Accepted.{AreNamedOnce, IsAcceptedScope, IsDefinedBefore, IsEarlier}
+use Rattle.idl_meaning.specs.Accepted.{AreNamedOnce, IsAcceptedScope, IsDefinedBefore}
 use Rattle.vtable_layout.specs.Layout.{has_too_many}
 use Rattle.vtable_layout.specs.Slots.{Slot, above, inherited, own_in, own_of, own_slots, parent_of, slots_of, slots_of_member}
 use Rattle.vtable_layout.proofs.Climbing as climbing
@@ -31,7 +31,7 @@ use Rattle.header_model.specs.Declares.{class_begun, decl_of, has_name, next_slo
 use Rattle.header_text.specs.Types.{name_at}
 use Rattle.header_text.specs.Order.{Spot, definitions_of, placed, spot_of}
 use Rattle.header_text.specs.Meaning.{class_number, declared_class, declared_slot, types_in}
-use Rattle.header_text.proofs.OrderLaws.{AreEntries, Entry, IsBelow, IsEntryOf, IsIn, Rises, below-trans, scope_entries, scope_has}
+use Rattle.header_text.proofs.OrderLaws.{Entry, IsBelow, IsEntryOf, IsIn, Rises, below-trans, scope_entries, scope_has}
 use Rattle.header_text.proofs.Said.{AllFit, IsFit}
 
 -- ---- one entry among the others

@@ -8,3 +8,4 @@ pub mod FormLaws
 pub mod ToldLaws
 pub mod StepLaws
 pub mod PlaceLaws
+pub mod HeaderLaw

@@ -4,6 +4,7 @@
 
 mod arguments;
 mod errors;
+pub mod laws;
 mod place_lines;
 
 pub use errors::HeaderWriteError;
