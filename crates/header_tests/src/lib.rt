@@ -3,4 +3,6 @@
 #![tactic(auto)]
 
 #[cfg(test)]
+mod places;
+#[cfg(test)]
 mod readings;
