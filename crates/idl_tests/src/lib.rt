@@ -9,6 +9,8 @@ mod closures;
 #[cfg(test)]
 mod declared;
 #[cfg(test)]
+mod headers;
+#[cfg(test)]
 mod libraries;
 #[cfg(test)]
 mod limits;
