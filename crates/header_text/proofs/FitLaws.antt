@@ -1,23 +1,23 @@
 -- The classes of an accepted scope may follow each other in the order of their definitions.
-use Rattle.std.proofs.Common.{◌≡◌, ◌⊎◌, inl, inr, ℕ, zero, suc, ◌+◌, ◌<◌, ◌≤◌, ◌&&◌, ◌||◌, not, Bool, true, false, cond, List, [], ◌∷◌, ◌++◌, length, map, drop, Option, Some, None, IsTrue, IsSomeAnd, refl, sym, ap, ◌∙◌, subst, arith, nat_lt, nat_eq, slice_get, ltb-false, lt-ltb, eqb-true, length-append, option_map, option_and_then, All, if◌then◌else◌}
+use Rattle.std.proofs.Common.{◌≡◌, ◌⊎◌, inl, inr, ℕ, suc, ◌+◌, ◌<◌, ◌≤◌, ◌&&◌, ◌||◌, not, Bool, true, false, cond, List, [], ◌∷◌, ◌++◌, length, map, Option, Some, None, IsSomeAnd, refl, sym, ap, ◌∙◌, subst, arith, nat_lt, nat_eq, slice_get, ltb-false, lt-ltb, eqb-true, length-append, option_map, option_and_then, All, if◌then◌else◌}
 use Rattle.std.specs.Prelude.{position}
 use Rattle.std.specs.Option.{option_map_or}
 use Rattle.std.specs.Bool.{one_answer}
 use Rattle.std.specs.List.{AllByRecursion, flat_map, list_any, position_or_len}
 use Rattle.std.specs.Str.{bytes_eq}
-use Rattle.std.proofs.lemmas.Bool.{eqb-false}
+use Rattle.std.proofs.lemmas.Bool.{eqb-false, false_from_ne_true}
 use Rattle.std.proofs.lemmas.Bool.Decides.{Decides-eqb, Decides-like}
 use Rattle.std.proofs.lemmas.List.{append_assoc, length-map, map-append}
 use Rattle.std.proofs.lemmas.Option.{slice_get_within}
 use Rattle.std.proofs.lemmas.Slice.Eq.{bytes_eq-Decides}
 use Rattle.std_collections.specs.Map.{values_of}
-use Rattle.call_model.specs.Prototype.{passed_type, types_of}
+use Rattle.call_model.specs.Prototype.{passed_type}
 use Rattle.call_model.specs.declared.prototypes.ProtoArg.{ProtoArg}
 use Rattle.idl_meaning.specs.declared.scope.Scope.{Scope}
 use Rattle.idl_meaning.specs.declared.scope.ScopeIface.{ScopeIface}
 use Rattle.idl_meaning.specs.declared.scope.ScopeMember.{ScopeMember}
 use Rattle.idl_meaning.specs.declared.scope.ScopeParam.{ScopeParam}
-use Rattle.idl_meaning.specs.Accepted.{AreNamedOnce, IsAcceptedScope, IsDefinedBefore, IsEarlier}
+use Rattle.idl_meaning.specs.Accepted.{AreNamedOnce, IsAcceptedScope, IsDefinedBefore}
 use Rattle.vtable_layout.specs.Layout.{has_too_many}
 use Rattle.vtable_layout.specs.Slots.{Slot, above, inherited, own_in, own_of, own_slots, parent_of, slots_of, slots_of_member}
 use Rattle.vtable_layout.proofs.Climbing as climbing
@@ -31,7 +31,7 @@ use Rattle.header_model.specs.Declares.{class_begun, decl_of, has_name, next_slo
 use Rattle.header_text.specs.Types.{name_at}
 use Rattle.header_text.specs.Order.{Spot, definitions_of, placed, spot_of}
 use Rattle.header_text.specs.Meaning.{class_number, declared_class, declared_slot, types_in}
-use Rattle.header_text.proofs.OrderLaws.{AreEntries, Entry, IsBelow, IsEntryOf, IsIn, Rises, below-trans, scope_entries, scope_has}
+use Rattle.header_text.proofs.OrderLaws.{Entry, IsBelow, IsEntryOf, IsIn, Rises, below-trans, scope_entries, scope_has}
 use Rattle.header_text.proofs.Said.{AllFit, IsFit}
 
 -- ---- one entry among the others
@@ -163,6 +163,7 @@ found_position test decls d n found =
 
 -- ---- how many arguments
 
+-- the context of scripts and the number of optional arguments
 few_added : (c m a : Bool)
     → length (if c && not m then context_arg ∷ [] else [])
     + length ((if c && m then context_arg ∷ [] else []) ++ (if a then count_arg ∷ [] else [])) ≤ 2
@@ -175,6 +176,7 @@ few_added false true false = omega arith
 few_added false false true = omega arith
 few_added false false false = omega arith
 
+-- the parameters before the value and from it on
 both_ends : (ps : List ScopeParam) → length (front ps) + length (back ps) ≡ length ps
 both_ends [] = omega arith
 both_ends (p ∷ ps) = go p.retval (both_ends ps)
@@ -243,7 +245,7 @@ narrow_own ifaces narrow k i at =
 
 -- ---- one class
 
--- the parts of a scope's law that are used here
+-- the entries by which the classes are ordered
 abbrev entries_of : List ScopeIface → List Entry
 entries_of ifaces = placed [] 0 ifaces
 
@@ -299,10 +301,6 @@ other_number ifaces d e left right below same =
     in let spots : e.0 ≡ d.0 = right.spotted ∙ ap spot_of ifaces_same ∙ sym left.spotted
     in not-below d.0 (subst (λ (x : Spot). IsBelow d.0 x) spots below)
 
-not-true : (b : Bool) → (b ≡ true → ⊥) → b ≡ false
-not-true true h = absurd (h refl)
-not-true false h = refl
-
 is_new : (s : Scope) → IsAcceptedScope s → (before : List Entry) (e : Entry) (more : List Entry)
     → StandsAt s.ifaces before e more
     → list_any (has_name (name_at s.ifaces e.1))
@@ -318,18 +316,21 @@ is_new s accepted before e more at =
         → AllByRecursion
         (λ (f : Entry). has_name (name_at s.ifaces e.1) (declared_class s.ifaces f.1) ≡ false) es
     others [] each below = tt
-    others (f ∷ es) each below =
-        (names_tell s.ifaces accepted.named_once e.1 f.1 at.one.iface each.0.iface at.one.found
-        each.0.found
-        ∙ not-true (nat_eq e.1 f.1)
-        (λ same. other_number s.ifaces f e each.0 at.one below.0 (eqb-true e.1 f.1 same)), others es
-        each.1 below.1)
+    others (f ∷ es) each below = (
+      names_tell s.ifaces accepted.named_once e.1 f.1 at.one.iface each.0.iface at.one.found
+          each.0.found
+          ∙ false_from_ne_true (nat_eq e.1 f.1)
+          (λ same. other_number s.ifaces f e each.0 at.one below.0 (eqb-true e.1 f.1 same)),
+      others es
+          each.1 below.1,
+    )
 
 -- the class that begins, behind that of its parent
 begun_behind : (ifaces : List ScopeIface) (before : List Entry) (e : Entry) (more : List Entry)
     → entries_of ifaces ≡ before ++ e ∷ more → (p : ℕ) → has_too_many ifaces p ≡ false
     → IsFoundAt (has_name (name_at ifaces p)) (map (declared_class ifaces) (values_of before))
-    (declared_class ifaces p) (position_or_len (nat_eq p) (values_of before ++ e.1 ∷ values_of more))
+    (declared_class ifaces p)
+    (position_or_len (nat_eq p) (values_of before ++ e.1 ∷ values_of more))
     → decl_of (map (declared_class ifaces) (values_of before)) (name_at ifaces e.1)
     (Some (name_at ifaces p))
     ≡ Some (class_begun (name_at ifaces e.1) (Some (class_number ifaces p))
@@ -392,13 +393,14 @@ begins_so : (s : Scope) → IsAcceptedScope s → KeepsLimits s → (before : Li
     (length (inherited s.ifaces e.1)))
 begins_so s accepted limits before e more all at = go (parent_of s.ifaces e.1) refl
   where
-    decls_name : Option ℕ → Type 0
-    decls_name o =
+    Begins : Option ℕ → Type 0
+    Begins o =
         decl_of (map (declared_class s.ifaces) (values_of before)) (name_at s.ifaces e.1)
         (option_map (name_at s.ifaces) o)
         ≡ Some (class_begun (name_at s.ifaces e.1) (option_map (class_number s.ifaces) o)
         (length (above (slots_of s.ifaces) o)))
-    go : (o : Option ℕ) → parent_of s.ifaces e.1 ≡ o → decls_name o
+
+    go : (o : Option ℕ) → parent_of s.ifaces e.1 ≡ o → Begins o
     go None h = refl
     go (Some p) h = extends s accepted limits before e more all at p
         (sym (ap (option_and_then (λ (i : ScopeIface). i.parent)) at.one.found) ∙ h)
@@ -410,7 +412,8 @@ fits_one : (s : Scope) → IsAcceptedScope s → KeepsLimits s → (before : Lis
     → IsFit s.ifaces (map (declared_class s.ifaces) (values_of before)) e.1
 fits_one s accepted limits before e more all =
     let are = scope_entries s.ifaces
-    in let at = stands s.ifaces before e more (subst (AllByRecursion (IsEntryOf s.ifaces)) all are.each)
+    in let at = stands s.ifaces before e more
+    (subst (AllByRecursion (IsEntryOf s.ifaces)) all are.each)
     (subst Rises all are.rise)
     in let few = limits.few_slots e.1 (slice_get_within s.ifaces e.1 at.one.iface at.one.found)
     in record {
@@ -432,9 +435,12 @@ fits_from s accepted limits before (e ∷ more) all =
     ≡ map (declared_class s.ifaces) (values_of before) ++ declared_class s.ifaces e.1 ∷ [] =
     ap (map (declared_class s.ifaces)) (map-append (λ (x : Entry). x.1) before (e ∷ []))
     ∙ map-append (declared_class s.ifaces) (values_of before) (e.1 ∷ [])
-    in (fits_one s accepted limits before e more all, subst
-    (λ (ds : List Decl). AllFit s.ifaces ds (values_of more)) decls
-    (fits_from s accepted limits (before ++ e ∷ []) more (all ∙ next)))
+    in (
+      fits_one s accepted limits before e more all,
+      subst
+          (λ (ds : List Decl). AllFit s.ifaces ds (values_of more)) decls
+          (fits_from s accepted limits (before ++ e ∷ []) more (all ∙ next)),
+    )
 
 pub scope-fits : (s : Scope) → IsAcceptedScope s → KeepsLimits s
     → AllFit s.ifaces [] (definitions_of s.ifaces)
