@@ -5,7 +5,7 @@ use Rattle.std.specs.Option.{option_map_or}
 use Rattle.std.specs.Bool.{one_answer}
 use Rattle.std.specs.List.{AllByRecursion, flat_map, list_any, position_or_len}
 use Rattle.std.specs.Str.{bytes_eq}
-use Rattle.std.proofs.lemmas.Bool.{eqb-false}
+use Rattle.std.proofs.lemmas.Bool.{eqb-false, false_from_ne_true}
 use Rattle.std.proofs.lemmas.Bool.Decides.{Decides-eqb, Decides-like}
 use Rattle.std.proofs.lemmas.List.{append_assoc, length-map, map-append}
 use Rattle.std.proofs.lemmas.Option.{slice_get_within}
@@ -163,6 +163,7 @@ found_position test decls d n found =
 
 -- ---- how many arguments
 
+-- the context of scripts and the number of optional arguments
 few_added : (c m a : Bool)
     → length (if c && not m then context_arg ∷ [] else [])
     + length ((if c && m then context_arg ∷ [] else []) ++ (if a then count_arg ∷ [] else [])) ≤ 2
@@ -175,6 +176,7 @@ few_added false true false = omega arith
 few_added false false true = omega arith
 few_added false false false = omega arith
 
+-- the parameters before the value and from it on
 both_ends : (ps : List ScopeParam) → length (front ps) + length (back ps) ≡ length ps
 both_ends [] = omega arith
 both_ends (p ∷ ps) = go p.retval (both_ends ps)
@@ -243,7 +245,7 @@ narrow_own ifaces narrow k i at =
 
 -- ---- one class
 
--- the parts of a scope's law that are used here
+-- the entries by which the classes are ordered
 abbrev entries_of : List ScopeIface → List Entry
 entries_of ifaces = placed [] 0 ifaces
 
@@ -299,10 +301,6 @@ other_number ifaces d e left right below same =
     in let spots : e.0 ≡ d.0 = right.spotted ∙ ap spot_of ifaces_same ∙ sym left.spotted
     in not-below d.0 (subst (λ (x : Spot). IsBelow d.0 x) spots below)
 
-not-true : (b : Bool) → (b ≡ true → ⊥) → b ≡ false
-not-true true h = absurd (h refl)
-not-true false h = refl
-
 is_new : (s : Scope) → IsAcceptedScope s → (before : List Entry) (e : Entry) (more : List Entry)
     → StandsAt s.ifaces before e more
     → list_any (has_name (name_at s.ifaces e.1))
@@ -318,18 +316,21 @@ is_new s accepted before e more at =
         → AllByRecursion
         (λ (f : Entry). has_name (name_at s.ifaces e.1) (declared_class s.ifaces f.1) ≡ false) es
     others [] each below = tt
-    others (f ∷ es) each below =
-        (names_tell s.ifaces accepted.named_once e.1 f.1 at.one.iface each.0.iface at.one.found
-        each.0.found
-        ∙ not-true (nat_eq e.1 f.1)
-        (λ same. other_number s.ifaces f e each.0 at.one below.0 (eqb-true e.1 f.1 same)), others es
-        each.1 below.1)
+    others (f ∷ es) each below = (
+      names_tell s.ifaces accepted.named_once e.1 f.1 at.one.iface each.0.iface at.one.found
+          each.0.found
+          ∙ false_from_ne_true (nat_eq e.1 f.1)
+          (λ same. other_number s.ifaces f e each.0 at.one below.0 (eqb-true e.1 f.1 same)),
+      others es
+          each.1 below.1,
+    )
 
 -- the class that begins, behind that of its parent
 begun_behind : (ifaces : List ScopeIface) (before : List Entry) (e : Entry) (more : List Entry)
     → entries_of ifaces ≡ before ++ e ∷ more → (p : ℕ) → has_too_many ifaces p ≡ false
     → IsFoundAt (has_name (name_at ifaces p)) (map (declared_class ifaces) (values_of before))
-    (declared_class ifaces p) (position_or_len (nat_eq p) (values_of before ++ e.1 ∷ values_of more))
+    (declared_class ifaces p)
+    (position_or_len (nat_eq p) (values_of before ++ e.1 ∷ values_of more))
     → decl_of (map (declared_class ifaces) (values_of before)) (name_at ifaces e.1)
     (Some (name_at ifaces p))
     ≡ Some (class_begun (name_at ifaces e.1) (Some (class_number ifaces p))
@@ -392,13 +393,14 @@ begins_so : (s : Scope) → IsAcceptedScope s → KeepsLimits s → (before : Li
     (length (inherited s.ifaces e.1)))
 begins_so s accepted limits before e more all at = go (parent_of s.ifaces e.1) refl
   where
-    decls_name : Option ℕ → Type 0
-    decls_name o =
+    Begins : Option ℕ → Type 0
+    Begins o =
         decl_of (map (declared_class s.ifaces) (values_of before)) (name_at s.ifaces e.1)
         (option_map (name_at s.ifaces) o)
         ≡ Some (class_begun (name_at s.ifaces e.1) (option_map (class_number s.ifaces) o)
         (length (above (slots_of s.ifaces) o)))
-    go : (o : Option ℕ) → parent_of s.ifaces e.1 ≡ o → decls_name o
+
+    go : (o : Option ℕ) → parent_of s.ifaces e.1 ≡ o → Begins o
     go None h = refl
     go (Some p) h = extends s accepted limits before e more all at p
         (sym (ap (option_and_then (λ (i : ScopeIface). i.parent)) at.one.found) ∙ h)
@@ -410,7 +412,8 @@ fits_one : (s : Scope) → IsAcceptedScope s → KeepsLimits s → (before : Lis
     → IsFit s.ifaces (map (declared_class s.ifaces) (values_of before)) e.1
 fits_one s accepted limits before e more all =
     let are = scope_entries s.ifaces
-    in let at = stands s.ifaces before e more (subst (AllByRecursion (IsEntryOf s.ifaces)) all are.each)
+    in let at = stands s.ifaces before e more
+    (subst (AllByRecursion (IsEntryOf s.ifaces)) all are.each)
     (subst Rises all are.rise)
     in let few = limits.few_slots e.1 (slice_get_within s.ifaces e.1 at.one.iface at.one.found)
     in record {
@@ -432,9 +435,12 @@ fits_from s accepted limits before (e ∷ more) all =
     ≡ map (declared_class s.ifaces) (values_of before) ++ declared_class s.ifaces e.1 ∷ [] =
     ap (map (declared_class s.ifaces)) (map-append (λ (x : Entry). x.1) before (e ∷ []))
     ∙ map-append (declared_class s.ifaces) (values_of before) (e.1 ∷ [])
-    in (fits_one s accepted limits before e more all, subst
-    (λ (ds : List Decl). AllFit s.ifaces ds (values_of more)) decls
-    (fits_from s accepted limits (before ++ e ∷ []) more (all ∙ next)))
+    in (
+      fits_one s accepted limits before e more all,
+      subst
+          (λ (ds : List Decl). AllFit s.ifaces ds (values_of more)) decls
+          (fits_from s accepted limits (before ++ e ∷ []) more (all ∙ next)),
+    )
 
 pub scope-fits : (s : Scope) → IsAcceptedScope s → KeepsLimits s
     → AllFit s.ifaces [] (definitions_of s.ifaces)

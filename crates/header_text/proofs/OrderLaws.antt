@@ -1,5 +1,5 @@
--- The entries by which a header's classes are ordered: each is of a defined interface, they rise, and
--- every defined interface has one.
+-- The entries by which a header's classes are ordered: each is of a defined interface, they rise,
+-- and every defined interface has one.
 use Rattle.std.proofs.Common.{◌≡◌, ◌⊎◌, inl, inr, ℕ, zero, suc, ◌+◌, ◌<◌, Bool, true, false, List, [], ◌∷◌, Some, None, IsTrue, refl, sym, ap, ◌∙◌, subst, arith, slice_get, if◌then◌else◌}
 use Rattle.std.specs.List.{AllByRecursion}
 use Rattle.std.specs.declared.cmp.Ordering.{Ordering}
@@ -103,8 +103,14 @@ rises_inserted (e ∷ es) key v h = go (spot_cmp key e.0) refl (rises_inserted e
         (match_ordering o ((key, v) ∷ e ∷ es) ((e.0, v) ∷ es) (e ∷ insert_entry spot_cmp es key v))
     go Less at rest =
         let first = spot-less key e.0 at
-        in ((first, weaker (λ (f : Entry). IsBelow e.0 f.0) (λ (f : Entry). IsBelow key f.0)
-        (λ f below. below-trans key e.0 f.0 first below) es h.0), h)
+        in (
+          (
+            first,
+            weaker (λ (f : Entry). IsBelow e.0 f.0) (λ (f : Entry). IsBelow key f.0)
+                (λ f below. below-trans key e.0 f.0 first below) es h.0,
+          ),
+          h,
+        )
     go Equal at rest = h
     go Greater at rest =
         (all_inserted (λ (f : Entry). IsBelow e.0 f.0) es key v (spot-greater key e.0 at) h.0, rest)
@@ -146,9 +152,12 @@ kept_inserted ifaces apart f (e ∷ es) key v new all h =
         (match_ordering o ((key, v) ∷ e ∷ es) ((e.0, v) ∷ es) (e ∷ insert_entry spot_cmp es key v))
     go Less at is rest = inr is
     go Equal at (inl is) rest =
-        inl (is ∙ (λ j. (e.0, sym
-        (ap (λ (d : Entry). d.1)
-        (same_number ifaces apart (key, v) e new all.0 (spot-equal key e.0 at))) j)))
+        inl (is ∙ (λ j. (
+          e.0,
+          sym
+              (ap (λ (d : Entry). d.1)
+              (same_number ifaces apart (key, v) e new all.0 (spot-equal key e.0 at))) j,
+        )))
     go Equal at (inr is) rest = inr is
     go Greater at (inl is) rest = inl is
     go Greater at (inr is) rest = inr (rest is)
