@@ -1,15 +1,14 @@
 -- The classes that a text declares keep the limits of a header, so that their functions have
 -- places.
-use Rattle.std.proofs.Common.{◌≡◌, ◌⊎◌, ℕ, ◌+◌, ◌<◌, ◌≤◌, Bool, true, false, List, [], ◌∷◌, ◌++◌, length, get_or, Option, Some, None, refl, inl, inr, subst, arith, length-append, All}
+use Rattle.std.proofs.Common.{◌≡◌, ◌⊎◌, ℕ, ◌<◌, ◌≤◌, Bool, true, false, List, [], ◌∷◌, ◌++◌, length, get_or, Option, Some, None, refl, inl, inr, subst, arith, length-append, All}
 use Rattle.std.specs.Prelude.{◌==◌, nat_lt, nat_le, option_map, position, slice_get, if◌then◌else◌}
 use Rattle.std.specs.List.{list_any}
 use Rattle.std.specs.Option.{option_map_or}
 use Rattle.std.specs.Fmt.{decimal}
 use Rattle.std.specs.Str.{bytes_eq}
-use Rattle.std.proofs.lemmas.Bool.{eqb-true, leb-true, ltb-true}
+use Rattle.std.proofs.lemmas.Bool.{leb-true, ltb-true}
 use Rattle.std.proofs.lemmas.List.Elements.{All-get_or, All-nil, All-push}
 use Rattle.std.proofs.lemmas.Option.{none-some, same_Some, slice_get_cases}
-use Rattle.call_model.specs.declared.ctypes.CType.{CType}
 use Rattle.line_words.specs.Words.{Word}
 use Rattle.header_model.specs.declared.decls.Decl.{Decl}
 use Rattle.header_model.specs.declared.decls.DeclSlot.{DeclSlot}
