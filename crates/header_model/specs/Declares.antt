@@ -9,7 +9,7 @@ use Rattle.line_words.specs.Words.{Word, Each}
 use Rattle.header_model.specs.declared.decls.Decl.{Decl}
 use Rattle.header_model.specs.declared.decls.DeclSlot.{DeclSlot}
 use Rattle.header_model.specs.declared.decls.DeclSlot.TheVariants as slots
-use Rattle.header_model.specs.declared.limits.TheConstants.{MAX_ARGUMENTS}
+use Rattle.header_model.specs.declared.limits.TheConstants.{MAX_ARGUMENTS, MAX_SLOTS}
 use Rattle.header_model.specs.declared.lines.Line.{Line}
 use Rattle.header_model.specs.declared.lines.Line.TheVariants as lines
 use Rattle.header_model.specs.declared.states.State.{State}
@@ -53,7 +53,7 @@ step_class decls name parent =
 -- a class has at most 250 slots, its parents' counted
 abbrev pub with_slot : List Decl → Decl → DeclSlot → Option State
 with_slot decls decl slot =
-    if nat_lt (next_slot decl) 250
+    if nat_lt (next_slot decl) MAX_SLOTS
     then Some (Inside decls (record decl { slots = decl.slots ++ slot ∷ [] }))
     else None
 

@@ -13,7 +13,7 @@ mod states;
 mod words;
 
 pub use decls::{Decl, DeclSlot};
-pub use limits::{MAX_ARGUMENTS, MAX_HEADER, MAX_NAME};
+pub use limits::{MAX_ARGUMENTS, MAX_HEADER, MAX_NAME, MAX_SLOTS};
 pub use lines::Line;
 pub use states::State;
 pub use words::{VALUE_TYPES, type_word};

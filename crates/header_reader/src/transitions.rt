@@ -11,13 +11,10 @@ ghost use Rattle.header_reader.specs.Reading.{AreFit, IsFit, names_of};
 
 use crate::class_names::ClassNames;
 use call_model::CType;
-use header_model::{Decl, DeclSlot, Line, MAX_ARGUMENTS, State};
+use header_model::{Decl, DeclSlot, Line, MAX_ARGUMENTS, MAX_SLOTS, State};
 use line_words::Unread;
 use std::alloc::Global;
 use xp_base::{Bytes, List, dec_text};
-
-/// The most slots of a class, those of the classes that it extends counted.
-const MAX_SLOTS: u16 = 250;
 
 /// Where the header stands behind the line. `names` are the names of the classes that have begun,
 /// and stay so.

@@ -17,6 +17,7 @@ use Rattle.header_model.specs.declared.lines.Line.TheVariants as lines
 use Rattle.header_model.specs.Lines.{IsForm, IsLine, begun, lines_of}
 use Rattle.header_model.specs.Words.{IsName}
 use Rattle.header_model.proofs.Lacking.{form_lacks}
+use Rattle.header_model.proofs.TextLines.{lines_first}
 use Rattle.header_text.specs.Types.{name_at}
 use Rattle.header_text.specs.Order.{definitions_of}
 use Rattle.header_text.specs.Header.{arguments_text, class_line, class_lines, ended, forward_line, header_lines, header_text, line_by, slot_line}
@@ -27,20 +28,13 @@ use Rattle.header_text.proofs.Said.{class_said, forward_said, header_said, said_
 
 -- ---- a text that is made of lines falls into these lines
 
-line-first : (w rest : Word) → lacks 10 w ≡ true → lines_of (w ++ 10 ∷ rest) ≡ (w ++ 10 ∷ []) ∷ lines_of rest
-unfolding lines_of
-line-first [] rest free = refl
-line-first (b ∷ w) rest free =
-    let parts = both (not (eqb b 10)) (lacks 10 w) free in
-    rw (not_true (eqb b 10) parts.0) (ap (begun b) (line-first w rest parts.1))
-
 lines-said : (ws : List Word) (said : List Line) → Each IsForm ws said → Each IsLine (lines_of (flat_map ended ws)) said
 unfolding lines_of
 lines-said [] said each = each
 lines-said (w ∷ ws) [] each = absurd each
 lines-said (w ∷ ws) (line ∷ said) each =
     let split : lines_of (flat_map ended (w ∷ ws)) ≡ (w ++ 10 ∷ []) ∷ lines_of (flat_map ended ws) =
-    ap lines_of (append_assoc w (10 ∷ []) (flat_map ended ws)) ∙ line-first w (flat_map ended ws) (form_lacks w line each.0) in
+    ap lines_of (append_assoc w (10 ∷ []) (flat_map ended ws)) ∙ lines_first w (flat_map ended ws) (form_lacks w line each.0) in
     subst (λ v. Each IsLine v (line ∷ said)) (sym split) ((w, refl, each.0), lines-said ws said each.1)
 
 each-append : (ws vs : List Word) (xs ys : List Line) → Each IsForm ws xs → Each IsForm vs ys → Each IsForm (ws ++ vs) (xs ++ ys)
