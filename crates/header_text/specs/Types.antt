@@ -1,5 +1,5 @@
 -- The C++ types of a header's arguments. A type follows from how its argument is passed.
-use Rattle.std.specs.Prelude.{ℕ, ◌==◌, ◌||◌, List, [], ◌++◌, slice_get, codes, Option, Some, None, if◌then◌else◌}
+use Rattle.std.specs.Prelude.{ℕ, ◌==◌, ◌||◌, Bool, false, List, [], ◌++◌, slice_get, codes, Option, Some, None, if◌then◌else◌}
 use Rattle.std.specs.Option.{option_map_or}
 use Rattle.xp_base.specs.declared.kinds.Dir.{Dir}
 use Rattle.call_model.specs.declared.prototypes.Pass.{Pass}
@@ -82,3 +82,18 @@ type_by ifaces p (ByCell inward) = pointer_to (base_of ifaces p)
 
 abbrev pub type_text : List ScopeIface → ScopeParam → Word
 type_text ifaces p = type_by ifaces p (pass_of p)
+
+-- a parameter of which only what its type depends on is told
+abbrev pub param_like : Meant → Dir → (array : Bool) → (iid : Option ℕ) → ScopeParam
+param_like ty dir array iid = record {
+  name = [];
+  dir = dir;
+  ty = ty;
+  array = array;
+  size = None;
+  length = None;
+  iid = iid;
+  retval = false;
+  shared = false;
+  optional = false;
+}

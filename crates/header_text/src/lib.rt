@@ -4,5 +4,6 @@
 
 mod arguments;
 mod errors;
+mod types;
 
 pub use errors::HeaderWriteError;
