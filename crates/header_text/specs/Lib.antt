@@ -3,3 +3,4 @@ pub mod Order
 pub mod Header
 pub mod Meaning
 pub mod PlacesText
+pub mod Parts

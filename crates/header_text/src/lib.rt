@@ -4,6 +4,7 @@
 
 mod arguments;
 mod errors;
+mod slot_lines;
 mod types;
 
 pub use errors::HeaderWriteError;

@@ -90,8 +90,7 @@ fn base_alone(
 
 /// The base of a type.
 fn base_of(alloc: Global, ifaces: &List<ScopeIface>, typed: Typed<'_>) -> Result<Bytes, Memory>
-    ensures { IfOk result (λ text. text ≡ types.base_of ifaces.now
-        (param_like typed.ty.now typed.dir typed.array typed.iid)) }
+    ensures { IfOk result (λ text. text ≡ types.base_of ifaces.now (param_like typed.entry)) }
 {
     let base = base_alone(alloc, ifaces, typed.ty, typed.iid)?;
     if typed.array {
@@ -166,8 +165,7 @@ fn is_iid(ty: &Meant) -> bool
 
 /// How an argument is passed.
 fn pass_of(typed: Typed<'_>) -> Pass
-    ensures { result ≡ static_table.pass_of
-        (param_like typed.ty.now typed.dir typed.array typed.iid) }
+    ensures { result ≡ static_table.pass_of (param_like typed.entry) }
 {
     match typed.ty {
         Meant::StringClass(_) => Pass::ByRef,
@@ -181,8 +179,7 @@ pub(crate) fn type_text(
     ifaces: &List<ScopeIface>,
     typed: Typed<'_>,
 ) -> Result<Bytes, Memory>
-    ensures { IfOk result (λ text. text ≡ types.type_text ifaces.now
-        (param_like typed.ty.now typed.dir typed.array typed.iid)) }
+    ensures { IfOk result (λ text. text ≡ types.type_text ifaces.now (param_like typed.entry)) }
 {
     match pass_of(typed) {
         Pass::ByValue => base_of(alloc, ifaces, typed),
