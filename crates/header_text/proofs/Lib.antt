@@ -1,2 +1,4 @@
 pub mod Said
 pub mod StepLaws
+pub mod Fronts
+pub mod Follow

@@ -3,8 +3,14 @@
 #![tactic(auto)]
 
 mod arguments;
+mod classes;
 mod errors;
+mod lengths;
+mod members;
+mod order;
 mod slot_lines;
 mod types;
+mod writing;
 
 pub use errors::HeaderWriteError;
+pub use writing::header;
