@@ -1,6 +1,6 @@
 -- The parameters of a method, up to the one that gives the value and from it on.
-use Rattle.std.proofs.Common.{◌≡◌, ℕ, suc, ◌+◌, ◌<◌, Bool, true, false, not, ◌&&◌, List, [], ◌∷◌, ◌++◌, length, get_or, take, drop, map, Option, Some, None, refl, sym, ap, ◌∙◌, arith, append_assoc, cond, if◌then◌else◌}
-use Rattle.std.proofs.lemmas.List.{at_drop_more, map-append}
+use Rattle.std.proofs.Common.{◌≡◌, ℕ, suc, ◌+◌, ◌≤◌, ◌-◌, Bool, true, false, not, ◌&&◌, List, [], ◌∷◌, ◌++◌, length, length-drop, take, drop, map, Option, Some, None, refl, sym, ap, ◌∙◌, arith, append_assoc, cond, if◌then◌else◌}
+use Rattle.std.proofs.lemmas.List.{map-append, take_all}
 use Rattle.call_model.specs.declared.prototypes.MemberKind.TheVariants as kind
 use Rattle.line_words.specs.Words.{Word}
 use Rattle.idl_meaning.specs.declared.scope.Meant.{Meant}
@@ -10,27 +10,6 @@ use Rattle.vtable_layout.specs.Slots.{given, method}
 use Rattle.prototype_lowering.specs.StaticTable.{back, front}
 use Rattle.header_text.specs.declared.arguments.Argument.{Argument}
 use Rattle.header_text.specs.Header.{argument_of, arguments_of, context_if, count_if}
-
--- ---- how many stand before the value
-
--- one more, where the parameter at k gives no value
-pub front_more : (ps : List ScopeParam) (k : ℕ) (p : ScopeParam) → k < length ps
-    → p ≡ get_or ps k p → p.retval ≡ false
-    → length (front (drop k ps)) ≡ length (front (drop (k + 1) ps)) + 1
-front_more ps k p within is no =
-    at_drop_more (λ rest. length (front rest)) ps k p within
-    ∙ ap (λ x. length (front (x ∷ drop (k + 1) ps))) (sym is)
-    ∙ ap (λ b. length (if b then [] else (p ∷ front (drop (k + 1) ps)))) no
-    ∙ (let one : suc (length (front (drop (k + 1) ps))) ≡ length (front (drop (k + 1) ps)) + 1 =
-    omega arith in one)
-
--- none more, where it gives one
-pub front_none : (ps : List ScopeParam) (k : ℕ) (p : ScopeParam) → k < length ps
-    → p ≡ get_or ps k p → p.retval ≡ true → length (front (drop k ps)) ≡ 0
-front_none ps k p within is yes =
-    at_drop_more (λ rest. length (front rest)) ps k p within
-    ∙ ap (λ x. length (front (x ∷ drop (k + 1) ps))) (sym is)
-    ∙ ap (λ b. length (if b then [] else (p ∷ front (drop (k + 1) ps)))) yes
 
 -- ---- with the value that a method returns
 
@@ -77,7 +56,7 @@ placed_context : (context : Bool)
 placed_context true before value argc = refl
 placed_context false before value argc = refl
 
-pub method_split : (ifaces : List ScopeIface) (name : Word) (hidden argc context : Bool)
+method_split : (ifaces : List ScopeIface) (name : Word) (hidden argc context : Bool)
     (gives : Option Meant) (ps : List ScopeParam) (n : ℕ) → n ≡ length (front ps)
     → (((map (argument_of ifaces kind.Plain) (take n ps) ++ context_if context) ++ count_if argc)
     ++ map (argument_of ifaces kind.Plain) (drop n ps))
@@ -97,3 +76,33 @@ method_split ifaces name hidden argc context gives ps n is =
     ++ ((context_if context ++ count_if argc) ++ map f x)) (sym (back-given ps gives))
     ∙ sym (placed_context context (map f (front (ps ++ given false gives)))
     (map f (back (ps ++ given false gives))) argc)
+
+-- the parameters from the one of number n on
+rest_taken : (ps : List ScopeParam) (n : ℕ) → n ≤ length ps
+    → take (length ps - n) (drop n ps) ≡ drop n ps
+rest_taken ps n within = take_all (length ps - n) (drop n ps) (omega (arith, length-drop n ps))
+
+-- the arguments of a method, part by part
+pub method_made : (ifaces : List ScopeIface) (name : Word) (hidden argc context : Bool)
+    (gives : Option Meant) (ps : List ScopeParam) (n : ℕ) → n ≡ length (front ps) → n ≤ length ps
+    → (none before given_context counted behind all : List Argument) → none ≡ []
+    → before ≡ none ++ map (argument_of ifaces kind.Plain) (take n ps)
+    → given_context ≡ before ++ context_if context
+    → counted ≡ given_context ++ count_if argc
+    → behind ≡ counted ++ map (argument_of ifaces kind.Plain) (take (length ps - n) (drop n ps))
+    → all ≡ behind ++ map (argument_of ifaces kind.Plain) (given false gives)
+    → all ≡ arguments_of ifaces (method name hidden false argc context gives ps)
+method_made ifaces name hidden argc context gives ps n is within none before given_context counted
+    behind all e b x y z w =
+    let f = argument_of ifaces kind.Plain
+    in let first : before ≡ map f (take n ps) = b ∙ ap (λ t. t ++ map f (take n ps)) e
+    in let second : given_context ≡ map f (take n ps) ++ context_if context =
+    x ∙ ap (λ t. t ++ context_if context) first
+    in let third : counted ≡ (map f (take n ps) ++ context_if context) ++ count_if argc =
+    y ∙ ap (λ t. t ++ count_if argc) second
+    in let fourth : behind ≡ ((map f (take n ps) ++ context_if context) ++ count_if argc)
+    ++ map f (drop n ps) =
+    z ∙ ap (λ t. counted ++ map f t) (rest_taken ps n within)
+    ∙ ap (λ t. t ++ map f (drop n ps)) third
+    in w ∙ ap (λ t. t ++ map f (given false gives)) fourth
+    ∙ method_split ifaces name hidden argc context gives ps n is

@@ -1,6 +1,6 @@
 //! The arguments of a function in a header.
 
-ghost use Rattle.std.specs.Prelude.{◌≡◌, Bool, false, IfOk, OnOk, length, map, codes, ◌++◌};
+ghost use Rattle.std.specs.Prelude.{◌≡◌, ◌≤◌, Bool, false, IfOk, OnOk, length, map, codes, ◌++◌};
 ghost use Rattle.std.specs.List.{enumerate_from, flat_map};
 ghost use Rattle.call_model.specs.declared.prototypes.MemberKind.TheVariants as kind;
 ghost use Rattle.line_words.specs.Words.{Word};
@@ -163,7 +163,8 @@ fn push_given(
 
 /// How many parameters stand before the one that gives the value.
 fn front_len(params: &[ScopeParam]) -> usize
-    ensures { result ≡ length (front params.now) }
+    ensures many { result ≡ length (front params.now) }
+    ensures within { result ≤ length params.now }
 {
     for (k, param) in params.iter().enumerate() {
         if param.retval {

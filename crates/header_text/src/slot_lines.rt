@@ -115,6 +115,14 @@ fn gives_opaque(gives: &Option<Meant>) -> bool
     }
 }
 
+/// Whether a method has a value that no call can pass.
+fn has_opaque(gives: &Option<Meant>, params: &[ScopeParam]) -> bool
+    ensures { result ≡ (list_any static_table.is_opaque params.now
+        || list_any static_table.is_opaque (slots.given false gives.now)) }
+{
+    any_opaque(params) || gives_opaque(gives)
+}
+
 /// Whether a member with these marks, and a value that no call can pass or none, has no function.
 fn is_reserved(marks: Marks, opaque: bool) -> bool
     ensures { result ≡ (marks.hidden || marks.notxpcom || opaque) }
@@ -173,9 +181,7 @@ pub(crate) fn plain_line(
     ensures { IfOk result (λ line. line ≡ header.slot_line ifaces.now (slot, slots.method name.now
         marks.hidden marks.notxpcom marks.argc marks.context gives.now params.now)) }
 {
-    let opaque_params = any_opaque(params);
-    let opaque_value = gives_opaque(gives);
-    if is_reserved(marks, opaque_params || opaque_value) {
+    if is_reserved(marks, has_opaque(gives, params)) {
         return reserved_line(alloc, slot);
     }
     let arguments =
