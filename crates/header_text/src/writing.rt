@@ -60,8 +60,9 @@ pub fn header(alloc: Global, scope: &Scope, slots: &Slots) -> Result<Bytes, Head
         → MAX_HEADER < length (header_text scope.now) }
 {
     let mut text = Bytes::new(alloc);
-    push_forwards(alloc, &mut text, scope.ifaces.as_slice())?;
-    let order = definitions(alloc, scope.ifaces.as_slice())?;
+    let ifaces = scope.ifaces.as_slice();
+    push_forwards(alloc, &mut text, ifaces)?;
+    let order = definitions(alloc, ifaces)?;
     push_classes(alloc, &mut text, &scope.ifaces, slots, order.as_slice())?;
     Ok(text)
 }
