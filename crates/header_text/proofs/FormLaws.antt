@@ -1,5 +1,5 @@
 -- Each line of the header of an accepted scope says what it is to say.
-use Rattle.std.proofs.Common.{◌≡◌, ℕ, ◌+◌, ◌<◌, ◌≤◌, true, not, eqb, List, [], ◌∷◌, ◌++◌, length, map, Option, Some, None, refl, sym, ap, subst, ◌∙◌, arith}
+use Rattle.std.proofs.Common.{◌≡◌, ℕ, ◌+◌, ◌<◌, ◌≤◌, List, [], ◌∷◌, ◌++◌, length, map, Option, Some, None, refl, sym, ap, subst, ◌∙◌, arith}
 use Rattle.std.specs.Prelude.{codes, option_map}
 use Rattle.std.specs.List.{AllByRecursion, enumerate_from, flat_map}
 use Rattle.std.proofs.lemmas.List.{append_assoc}
@@ -10,11 +10,9 @@ use Rattle.idl_meaning.specs.declared.scope.ScopeIface.{ScopeIface}
 use Rattle.vtable_layout.specs.Slots.{Slot, inherited, own_of, parent_of}
 use Rattle.prototype_lowering.specs.StaticTable.{status_of}
 use Rattle.line_words.specs.Words.{Each, Word}
-use Rattle.line_words.proofs.Choices.{both, not_true}
-use Rattle.line_words.proofs.Marks.{lacks}
 use Rattle.header_model.specs.declared.lines.Line.{Line}
 use Rattle.header_model.specs.declared.lines.Line.TheVariants as lines
-use Rattle.header_model.specs.Lines.{IsForm, IsLine, begun, lines_of}
+use Rattle.header_model.specs.Lines.{IsForm, IsLine, lines_of}
 use Rattle.header_model.specs.Words.{IsName}
 use Rattle.header_model.proofs.Lacking.{form_lacks}
 use Rattle.header_model.proofs.TextLines.{lines_first}

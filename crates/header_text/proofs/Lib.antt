@@ -9,3 +9,7 @@ pub mod ToldLaws
 pub mod StepLaws
 pub mod PlaceLaws
 pub mod HeaderLaw
+pub mod Fronts
+pub mod OpenLines
+pub mod Definitions
+pub mod Whole

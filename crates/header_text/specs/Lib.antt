@@ -4,3 +4,4 @@ pub mod Header
 pub mod Meaning
 pub mod PlacesText
 pub mod Placeable
+pub mod Parts

@@ -1,5 +1,5 @@
 -- The C++ types of a header's arguments. A type follows from how its argument is passed.
-use Rattle.std.specs.Prelude.{ℕ, ◌==◌, ◌||◌, List, [], ◌++◌, slice_get, codes, Option, Some, None, if◌then◌else◌}
+use Rattle.std.specs.Prelude.{ℕ, ◌==◌, ◌||◌, false, List, [], ◌++◌, slice_get, codes, Option, Some, None, if◌then◌else◌}
 use Rattle.std.specs.Option.{option_map_or}
 use Rattle.xp_base.specs.declared.kinds.Dir.{Dir}
 use Rattle.call_model.specs.declared.prototypes.Pass.{Pass}
@@ -14,6 +14,7 @@ use Rattle.lib_model.specs.declared.tags.TheConstants as tags
 use Rattle.lib_model.specs.Table.{type_of_tag}
 use Rattle.prototype_lowering.specs.StaticTable.{pass_of}
 use Rattle.header_model.specs.Words.{type_word}
+use Rattle.header_text.specs.declared.types.Typed.{Typed}
 
 -- the name of the interface of a number
 abbrev pub name_at : List ScopeIface → ℕ → Word
@@ -82,3 +83,18 @@ type_by ifaces p (ByCell inward) = pointer_to (base_of ifaces p)
 
 abbrev pub type_text : List ScopeIface → ScopeParam → Word
 type_text ifaces p = type_by ifaces p (pass_of p)
+
+-- a parameter of which only what its type depends on is told
+abbrev pub param_like : Typed → ScopeParam
+param_like t = record {
+  name = [];
+  dir = t.dir;
+  ty = t.ty.now;
+  array = t.array;
+  size = None;
+  length = None;
+  iid = t.iid;
+  retval = false;
+  shared = false;
+  optional = false;
+}
