@@ -1,10 +1,9 @@
 -- What is not hidden, not `notxpcom`, and has no value that no call can pass, has a function.
-use Rattle.std.proofs.Common.{◌≡◌, ℕ, Bool, true, false, ◌||◌, List, [], ◌∷◌, ◌++◌, codes, Option, Some, None, Result, refl, sym, subst, ap, ◌∙◌, true≢false, if◌then◌else◌}
+use Rattle.std.proofs.Common.{◌≡◌, ℕ, Bool, true, false, ◌||◌, List, ◌++◌, codes, Option, Some, None, Result, refl, sym, subst, ap, ◌∙◌, true≢false, if◌then◌else◌}
 use Rattle.std.specs.Prelude.{IfOk}
 use Rattle.std.specs.List.{list_any}
 use Rattle.std.proofs.lemmas.List.Folds.{list_any-append}
 use Rattle.xp_base.specs.declared.errors.Memory.{Memory}
-use Rattle.call_model.specs.declared.prototypes.Status.{Status}
 use Rattle.call_model.specs.declared.prototypes.Status.TheVariants.{Callable, Hidden, NotXpcom, Opaque}
 use Rattle.line_words.specs.Words.{Word}
 use Rattle.idl_meaning.specs.declared.scope.Meant.{Meant}

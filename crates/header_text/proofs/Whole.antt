@@ -1,5 +1,5 @@
 -- The parts of a header are the whole.
-use Rattle.std.proofs.Common.{◌≡◌, ℕ, ◌+◌, ◌<◌, ◌≤◌, false, List, [], ◌∷◌, ◌++◌, codes, length, get_or, slice_index, map, Some, Err, refl, sym, ap, ◌∙◌, arith, option_and_then, append_assoc, length-append, slice_get}
+use Rattle.std.proofs.Common.{◌≡◌, ℕ, ◌+◌, ◌<◌, ◌≤◌, List, [], ◌∷◌, ◌++◌, codes, length, get_or, slice_index, map, Some, Err, refl, sym, ap, ◌∙◌, arith, option_and_then, append_assoc, length-append, slice_get}
 use Rattle.std.specs.Prelude.{IsErrOf}
 use Rattle.std.specs.List.{enumerate_from, flat_map}
 use Rattle.std.specs.Option.{option_map_or}
@@ -10,7 +10,7 @@ use Rattle.idl_meaning.specs.declared.scope.Scope.{Scope}
 use Rattle.idl_meaning.specs.declared.scope.ScopeIface.{ScopeIface}
 use Rattle.vtable_layout.specs.declared.slot_numbers.Slots.{Slots}
 use Rattle.vtable_layout.specs.Layout.{AreSlotsOf}
-use Rattle.vtable_layout.specs.Slots.{inherited, own_in, own_of, own_slots, parent_of, slots_of, slots_of_member}
+use Rattle.vtable_layout.specs.Slots.{inherited, own_in, own_of, own_slots, parent_of, slots_of_member}
 use Rattle.vtable_layout.proofs.Climbing.{few_slots, parts}
 use Rattle.header_text.specs.declared.errors.HeaderWriteError.{HeaderWriteError}
 use Rattle.header_text.specs.Types.{name_at}

@@ -3,4 +3,5 @@ pub mod Order
 pub mod Header
 pub mod Meaning
 pub mod PlacesText
+pub mod Marks
 pub mod Parts
