@@ -4,4 +4,5 @@ pub mod Header
 pub mod Meaning
 pub mod PlacesText
 pub mod Placeable
+pub mod Marks
 pub mod Parts

@@ -11,7 +11,8 @@ forwards_text ifaces = flat_map (λ i. ended (forward_line i)) ifaces
 
 -- slots that are numbered from this on
 abbrev pub slots_text : List ScopeIface → ℕ → List Slot → List ℕ
-slots_text ifaces number slots = flat_map ended (map (slot_line ifaces) (enumerate_from number slots))
+slots_text ifaces number slots =
+    flat_map ended (map (slot_line ifaces) (enumerate_from number slots))
 
 -- the class of the interface of this number
 abbrev pub class_text : List ScopeIface → ℕ → List ℕ

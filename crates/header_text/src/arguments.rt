@@ -54,11 +54,7 @@ fn written_argument(
 }
 
 /// The argument by which a value of this type is given.
-fn given_argument(
-    alloc: Global,
-    ifaces: &List<ScopeIface>,
-    ty: &Meant,
-) -> Result<Argument, Memory>
+fn given_argument(alloc: Global, ifaces: &List<ScopeIface>, ty: &Meant) -> Result<Argument, Memory>
     ensures { IfOk result (λ argument. argument
         ≡ header.argument_of ifaces.now kind.Plain (slots.given_param ty.now)) }
 {
@@ -75,11 +71,7 @@ fn given_argument(
 }
 
 /// The argument by which an attribute of this type is set.
-fn value_argument(
-    alloc: Global,
-    ifaces: &List<ScopeIface>,
-    ty: &Meant,
-) -> Result<Argument, Memory>
+fn value_argument(alloc: Global, ifaces: &List<ScopeIface>, ty: &Meant) -> Result<Argument, Memory>
     ensures { (name : Word) → IfOk result (λ argument. argument
         ≡ header.argument_of ifaces.now kind.Set (slots.value_param name ty.now)) }
 {
@@ -96,11 +88,7 @@ fn value_argument(
 }
 
 /// Adds the context of scripts, where it is wanted.
-fn push_context(
-    alloc: Global,
-    arguments: &mut List<Argument>,
-    added: bool,
-) -> Result<(), Memory>
+fn push_context(alloc: Global, arguments: &mut List<Argument>, added: bool) -> Result<(), Memory>
     ensures { OnOk result (arguments.new ≡ arguments.old ++ header.context_if added) }
 {
     if !added {
@@ -113,11 +101,7 @@ fn push_context(
 }
 
 /// Adds the number of optional arguments that are given, where it is wanted.
-fn push_count(
-    alloc: Global,
-    arguments: &mut List<Argument>,
-    added: bool,
-) -> Result<(), Memory>
+fn push_count(alloc: Global, arguments: &mut List<Argument>, added: bool) -> Result<(), Memory>
     ensures { OnOk result (arguments.new ≡ arguments.old ++ header.count_if added) }
 {
     if !added {

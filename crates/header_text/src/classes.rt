@@ -54,7 +54,10 @@ fn push_class(
 {
     let iface = &ifaces.as_slice()[number as usize];
     let first = slots.first.as_slice()[number as usize];
-    push_line(text, class_line(alloc, ifaces, iface.name.as_slice(), iface.parent)?)?;
+    push_line(
+        text,
+        class_line(alloc, ifaces, iface.name.as_slice(), iface.parent)?,
+    )?;
     text.append(b" public:\n")?;
     push_members(alloc, text, ifaces, first, iface.members.as_slice())?;
     text.append(b"};\n")

@@ -4,6 +4,7 @@ ghost use Rattle.std.specs.Prelude.{◌≡◌, ◌≤◌, ◌+◌, ◌++◌, IfO
 ghost use Rattle.std.specs.List.{flat_map};
 ghost use Rattle.vtable_layout.specs.Slots.{slots_of_member};
 ghost use Rattle.header_text.specs.Header.{ended};
+ghost use Rattle.header_text.specs.Marks as marks;
 ghost use Rattle.header_text.specs.Parts.{slots_text};
 
 use crate::slot_lines::{Marks, getter_line, plain_line, setter_line};
@@ -18,6 +19,43 @@ pub(crate) fn push_line(text: &mut Bytes, line: Bytes) -> Result<(), Memory>
     let mut line = line;
     line.append(b"\n")?;
     text.append(line.as_slice())
+}
+
+/// What is written before a member.
+fn marks_of(body: &ScopeBody) -> Marks
+    ensures { result ≡ marks.marks_of body.now }
+{
+    match body {
+        ScopeBody::Constant { .. } => Marks {
+            hidden: false,
+            notxpcom: false,
+            argc: false,
+            context: false,
+        },
+        ScopeBody::Attribute {
+            hidden,
+            notxpcom,
+            context,
+            ..
+        } => Marks {
+            hidden: *hidden,
+            notxpcom: *notxpcom,
+            argc: false,
+            context: *context,
+        },
+        ScopeBody::Method {
+            hidden,
+            notxpcom,
+            argc,
+            context,
+            ..
+        } => Marks {
+            hidden: *hidden,
+            notxpcom: *notxpcom,
+            argc: *argc,
+            context: *context,
+        },
+    }
 }
 
 /// Adds the lines of a member, whose first slot is `slot`. Gives the slot behind its last.
@@ -35,21 +73,10 @@ fn push_member(
         (λ behind. behind ≡ slot + length (slots_of_member member.now)) }
 {
     let name = member.name.as_slice();
+    let marks = marks_of(&member.body);
     match &member.body {
         ScopeBody::Constant { .. } => Ok(slot),
-        ScopeBody::Attribute {
-            hidden,
-            notxpcom,
-            context,
-            readonly,
-            ty,
-        } => {
-            let marks = Marks {
-                hidden: *hidden,
-                notxpcom: *notxpcom,
-                argc: false,
-                context: *context,
-            };
+        ScopeBody::Attribute { readonly, ty, .. } => {
             push_line(text, getter_line(alloc, ifaces, slot, name, marks, ty)?)?;
             if *readonly {
                 return Ok(slot + 1);
@@ -57,22 +84,12 @@ fn push_member(
             push_line(text, setter_line(alloc, ifaces, slot + 1, name, marks, ty)?)?;
             Ok(slot + 2)
         }
-        ScopeBody::Method {
-            hidden,
-            notxpcom,
-            argc,
-            context,
-            result,
-            params,
-        } => {
-            let marks = Marks {
-                hidden: *hidden,
-                notxpcom: *notxpcom,
-                argc: *argc,
-                context: *context,
-            };
+        ScopeBody::Method { result, params, .. } => {
             let params = params.as_slice();
-            push_line(text, plain_line(alloc, ifaces, slot, name, marks, result, params)?)?;
+            push_line(
+                text,
+                plain_line(alloc, ifaces, slot, name, marks, result, params)?,
+            )?;
             Ok(slot + 1)
         }
     }

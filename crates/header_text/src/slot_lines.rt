@@ -139,8 +139,10 @@ pub(crate) fn getter_line(
     marks: Marks,
     ty: &Meant,
 ) -> Result<Bytes, Memory>
-    ensures { IfOk result (λ line. line ≡ header.slot_line ifaces.now (slot,
-        slots.getter name.now marks.hidden marks.notxpcom marks.context ty.now)) }
+    ensures { IfOk result (λ line. line ≡ header.slot_line ifaces.now (
+      slot,
+      slots.getter name.now marks.hidden marks.notxpcom marks.context ty.now,
+    )) }
 {
     if is_reserved(marks, is_opaque(ty, None)) {
         return reserved_line(alloc, slot);
@@ -158,8 +160,10 @@ pub(crate) fn setter_line(
     marks: Marks,
     ty: &Meant,
 ) -> Result<Bytes, Memory>
-    ensures { IfOk result (λ line. line ≡ header.slot_line ifaces.now (slot,
-        slots.setter name.now marks.hidden marks.notxpcom marks.context ty.now)) }
+    ensures { IfOk result (λ line. line ≡ header.slot_line ifaces.now (
+      slot,
+      slots.setter name.now marks.hidden marks.notxpcom marks.context ty.now,
+    )) }
 {
     if is_reserved(marks, is_opaque(ty, None)) {
         return reserved_line(alloc, slot);
@@ -178,13 +182,15 @@ pub(crate) fn plain_line(
     gives: &Option<Meant>,
     params: &[ScopeParam],
 ) -> Result<Bytes, Memory>
-    ensures { IfOk result (λ line. line ≡ header.slot_line ifaces.now (slot, slots.method name.now
-        marks.hidden marks.notxpcom marks.argc marks.context gives.now params.now)) }
+    ensures { IfOk result (λ line. line ≡ header.slot_line ifaces.now (
+      slot,
+      slots.method name.now
+          marks.hidden marks.notxpcom marks.argc marks.context gives.now params.now,
+    )) }
 {
     if is_reserved(marks, has_opaque(gives, params)) {
         return reserved_line(alloc, slot);
     }
-    let arguments =
-        method_arguments(alloc, ifaces, marks.argc, marks.context, gives, params)?;
+    let arguments = method_arguments(alloc, ifaces, marks.argc, marks.context, gives, params)?;
     method_line(alloc, MemberKind::Plain, name, &arguments)
 }

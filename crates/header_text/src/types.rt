@@ -144,13 +144,7 @@ fn pass_by(dir: Dir, nsid: bool) -> Pass
     ensures { result ≡ static_table.pass_by dir nsid }
 {
     match dir {
-        Dir::Inward => {
-            if nsid {
-                Pass::ByRef
-            } else {
-                Pass::ByValue
-            }
-        }
+        Dir::Inward => { if nsid { Pass::ByRef } else { Pass::ByValue } }
         Dir::Outward => Pass::ByCell { inward: false },
         Dir::Both => Pass::ByCell { inward: true },
     }

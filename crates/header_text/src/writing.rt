@@ -1,7 +1,11 @@
 ghost use Rattle.std.specs.Prelude.{◌≡◌, ◌<◌, ◌≤◌, ◌^◌, ◌++◌, IfOk, IsErrOf, OnOk, length};
+ghost use Rattle.idl_meaning.specs.Accepted.{IsAcceptedScope};
 ghost use Rattle.vtable_layout.specs.Layout.{AreSlotsOf};
+ghost use Rattle.prototype_lowering.specs.Limits.{KeepsLimits};
+ghost use Rattle.header_model.specs.Declares.{Declares};
 ghost use Rattle.header_text.specs.Header as header;
 ghost use Rattle.header_text.specs.Header.{header_text};
+ghost use Rattle.header_text.specs.Meaning.{declared};
 ghost use Rattle.header_text.specs.Parts.{forwards_text};
 
 use crate::classes::push_classes;
@@ -55,6 +59,8 @@ pub fn header(alloc: Global, scope: &Scope, slots: &Slots) -> Result<Bytes, Head
     requires few { length scope.now.ifaces < 2 ^ 32 }
     requires slots { AreSlotsOf scope.now.ifaces slots.now }
     ensures text { IfOk result (λ text. text ≡ header_text scope.now) }
+    ensures declares { IsAcceptedScope scope.now → KeepsLimits scope.now
+        → IfOk result (λ text. Declares text (declared scope.now)) }
     ensures fits { IfOk result (λ text. length text ≤ MAX_HEADER) }
     ensures too_long { IsErrOf result HeaderWriteError.TooLong
         → MAX_HEADER < length (header_text scope.now) }
