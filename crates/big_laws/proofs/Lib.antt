@@ -1,2 +1,3 @@
 pub mod Below
 pub mod Lexed
+pub mod Lexemes
