@@ -14,7 +14,8 @@ use Rattle.idl_grammar.specs.Grammar as g
 use Rattle.idl_grammar.specs.Grammar.{one_item, file}
 use Rattle.idl_grammar.specs.Read.{Outcome, pair, read}
 use Rattle.idl_grammar.specs.Rule.{Reads, Each}
-use Rattle.idl_grammar.specs.Terminals.{Lexeme, lexemes_of, same_kind, fits}
+use Rattle.idl_grammar.specs.Terminals as terminals
+use Rattle.idl_grammar.specs.Terminals.{Lexeme, lexemes_of, same_kind}
 use Rattle.idl_grammar.specs.Texts.{HasTree}
 use Rattle.idl_grammar.specs.declared.tree.Item.{Item}
 use Rattle.idl_grammar.proofs.Predictive.{item-predictive}
@@ -132,7 +133,7 @@ lexed_among whole before (p ∷ ps) line is on =
 -- ---- the tree
 
 pub item_read : (i : ℕ) → i < 250 → Reads one_item (lexed (4 * i + 1) (iface_pieces i)) (big_item i)
-unfolding iface_pieces digits is_in any some short is_name keys is_key is_word iid native hexadecimal decimal include language piece_at token_at numbered_at lettered_at name_at after_mark after_number after_run after_comment is_whole g.long_type g.unsigned_type g.wide_type g.type_name g.attribute_name g.attribute_word g.attribute_value g.one_attribute g.attribute_list g.attributes g.any_attributes g.direction g.parameter g.parameter_list g.parameters g.passed_names g.any_raises g.any_readonly g.attribute g.method g.marked_member g.constant g.member_body g.one_member g.forward g.parent g.definition g.interface g.native g.marked_item g.typedef g.item_body g.one_item same_kind
+unfolding iface_pieces digits is_in any some short is_name keys is_key is_word iid native hexadecimal decimal include language piece_at token_at numbered_at lettered_at name_at after_mark after_number after_run after_comment is_whole g.long_type g.unsigned_type g.wide_type g.type_name g.attribute_name g.attribute_word g.attribute_value g.one_attribute g.attribute_list g.attributes g.any_attributes g.direction g.parameter g.parameter_list g.parameters g.passed_names g.any_raises g.any_readonly g.attribute g.method g.marked_member g.constant g.member_body g.one_member g.forward g.parent g.definition g.interface g.native g.marked_item g.typedef g.item_body g.one_item same_kind terminals.is_symbol
 item_read i within = whole (read one_item (lexed (4 * i + 1) (iface_pieces i))) is
     (sound one_item item-predictive (lexed (4 * i + 1) (iface_pieces i)))
   where
