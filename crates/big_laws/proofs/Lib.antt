@@ -4,3 +4,4 @@ pub mod Lexemes
 pub mod Listed
 pub mod Meant
 pub mod Limits
+pub mod Scripted

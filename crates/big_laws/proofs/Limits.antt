@@ -1,6 +1,7 @@
 -- The scope of `big` keeps the limits of a typelib, and its bytes are no more than a typelib has.
-use Rattle.std.proofs.Common.{◌≡◌, ℕ, zero, suc, ◌+◌, ◌*◌, ◌-◌, ◌<◌, ◌≤◌, ◌||◌, nat_le, nat_lt, Bool, true, false, List, [], ◌∷◌, ◌++◌, length, map, slice_get, Option, Some, None, sum_by, refl, sym, ap, subst, ◌∙◌, inl, inr, ◌⊎◌, arith, length-append, length-map, option_and_then}
-use Rattle.std.proofs.lemmas.Bool.{leb-true, le-ltb}
+use Rattle.std.proofs.Common.{◌≡◌, ℕ, zero, suc, ◌+◌, ◌*◌, ◌-◌, ◌<◌, ◌≤◌, ◌||◌, nat_le, nat_lt, Bool, true, false, List, [], ◌∷◌, ◌++◌, length, map, slice_get, Option, Some, None, sum_by, refl, sym, ap, subst, ◌∙◌, inl, inr, ◌⊎◌, arith, length-append, option_and_then, ◌==◌}
+use Rattle.std.proofs.lemmas.Bool.{eqb-true, leb-true, le-ltb}
+use Rattle.std.proofs.lemmas.List.{length-map}
 use Rattle.std.proofs.lemmas.List.Sums.{sum_by-cons}
 use Rattle.std.specs.Fmt.{digits}
 use Rattle.std.specs.List.{AllByRecursion, list_any}
@@ -60,6 +61,13 @@ narrow n few k place = go (slice_get (ifaces n) k) refl
 
 -- ---- slots
 
+not_zero : (k : ℕ) → (suc k == 0) ≡ false
+not_zero k = go (suc k == 0) refl
+  where
+    go : (b : Bool) → (suc k == 0) ≡ b → b ≡ false
+    go true is = let zero : suc k ≡ 0 = eqb-true (suc k) 0 is in absurd (omega (arith, zero))
+    go false is = refl
+
 -- a parent comes before its child
 no_late_parent : (n k : ℕ)
     → (parent_of (ifaces n) k ≡ None) ⊎ ((p : ℕ) × (parent_of (ifaces n) k ≡ Some p) × (p < k))
@@ -67,7 +75,7 @@ no_late_parent n k = go (slice_get (ifaces n) k) refl
   where
     at : (k : ℕ) → ((scope_iface k).parent ≡ None) ⊎ ((p : ℕ) × ((scope_iface k).parent ≡ Some p) × (p < k))
     at zero = inl refl
-    at (suc k) = let less : suc k - 1 < suc k = omega arith in inr (suc k - 1, refl, less)
+    at (suc k) = let less : suc k - 1 < suc k = omega arith in inr (suc k - 1, rw (not_zero k) refl, less)
     go : (o : Option ScopeIface) → slice_get (ifaces n) k ≡ o
         → (option_and_then (λ (i : ScopeIface). i.parent) o ≡ None) ⊎ ((p : ℕ) × (option_and_then (λ (i : ScopeIface). i.parent) o ≡ Some p) × (p < k))
     go None is = inl refl
@@ -89,24 +97,26 @@ few_own n k = go (slice_get (ifaces n) k) refl
 chain_short : (n m k : ℕ) → length (chain_within (ifaces n) m k) ≤ k + 1
 unfolding chain_within
 chain_short n zero k = omega arith
-chain_short n (suc m) k = go (parent_of (ifaces n) k) (no_late_parent n k)
+chain_short n (suc m) k = go (parent_of (ifaces n) k) (no_late_parent n k) (chain_short n m)
   where
     go : (o : Option ℕ) → (o ≡ None) ⊎ ((p : ℕ) × (o ≡ Some p) × (p < k))
+        → ((p : ℕ) → length (chain_within (ifaces n) m p) ≤ p + 1)
         → length (k ∷ above (chain_within (ifaces n) m) o) ≤ k + 1
-    go o (inl is) = rw is (omega arith)
-    go o (inr h) = rw h.1 (omega (arith, chain_short n m h.0, h.2))
+    go o (inl is) short = rw is (omega arith)
+    go o (inr h) short = rw h.1 (omega (arith, short h.0, h.2))
 
 slots_short : (n m k : ℕ) → length (slots_within (ifaces n) m k) ≤ k + 1
 unfolding slots_within
 slots_short n zero k = omega arith
-slots_short n (suc m) k = go (parent_of (ifaces n) k) (no_late_parent n k)
+slots_short n (suc m) k = go (parent_of (ifaces n) k) (no_late_parent n k) (slots_short n m)
   where
     go : (o : Option ℕ) → (o ≡ None) ⊎ ((p : ℕ) × (o ≡ Some p) × (p < k))
+        → ((p : ℕ) → length (slots_within (ifaces n) m p) ≤ p + 1)
         → length (above (slots_within (ifaces n) m) o ++ own_of (ifaces n) k) ≤ k + 1
-    go o (inl is) = rw is (omega (arith, few_own n k))
-    go o (inr h) =
+    go o (inl is) short = rw is (omega (arith, few_own n k))
+    go o (inr h) short =
         rw h.1 (omega (arith, length-append (slots_within (ifaces n) m h.0) (own_of (ifaces n) k),
-        slots_short n m h.0, h.2, few_own n k))
+        short h.0, h.2, few_own n k))
 
 few_slots : (n : ℕ) → n ≤ 250 → (k : ℕ) → k < n → has_too_many (ifaces n) k ≡ false
 few_slots n few k within =
