@@ -24,6 +24,7 @@ use Rattle.idl_meaning.specs.Meaning as m
 use Rattle.idl_meaning.specs.Meaning.{sense}
 use Rattle.idl_meaning.specs.Scopes.{Known, nothing_known, after, after_items, iface_made, number_in, params_made, result_of, scope_of}
 use Rattle.idl_meaning.proofs.WholeScope.{scope-accepted}
+use Rattle.big_texts.specs.Files.{idl_files}
 use Rattle.big_texts.specs.Idl.{big_idl, iface_text, param_count}
 use Rattle.big_texts.specs.Pieces.{decimal, pieces}
 use Rattle.big_laws.specs.Trees.{listed, big_files, big_iface, big_item, big_param, big_tree}
@@ -47,15 +48,12 @@ no_includes : (n i : ℕ) → includes (listed big_item i n) ≡ []
 no_includes zero i = refl
 no_includes (suc n) i = no_includes n (suc i)
 
-pub closed : (last : ℕ) → last ≤ 249
-    → IsClosure (with_file [] (codes "big.idl") (big_idl last)) (codes "big.idl" ∷ [])
-    (big_files last)
+pub closed : (last : ℕ) → last ≤ 249 → IsClosure (idl_files last) (codes "big.idl" ∷ []) (big_files last)
 closed last few =
     let short = text_short (last + 1) (omega (arith, few)) in
     let alone : nat_le (length (big_idl last)) MAX_TEXT ≡ true =
     le-leb (length (big_idl last)) MAX_TEXT (omega (arith, short, few)) in
     let room : has_room 0 (big_idl last) ≡ true = rw alone (le-leb _ _ (omega (arith, short, few))) in
-    let told = with_file [] (codes "big.idl") (big_idl last) in
     let inner = begins nothing (codes "big.idl") (big_idl last) in
     (closes inner (codes "big.idl") (big_tree (last + 1)),
     taken (codes "big.idl") [] nothing inner (big_idl last) (big_tree (last + 1))
@@ -157,10 +155,13 @@ lawful last few =
       tokens-count (big_idl last) has.tokens has.spelled);
     }
 
+pub all_lawful : (last : ℕ) → last ≤ 249 → AreLawfulFiles (big_files last)
+all_lawful last few =
+    All-cons (λ (one : ClosedFile). IsLawfulFile one.file)
+    (record { name = codes "big.idl"; file = big_tree (last + 1) }) [] (lawful last few)
+    (All-nil (λ (one : ClosedFile). IsLawfulFile one.file))
+
 pub accepted_scope : (last : ℕ) → last ≤ 249 → IsAcceptedScope (scope_of (big_files last))
 accepted_scope last few =
-    scope-accepted (big_files last)
-    (All-cons (λ (one : ClosedFile). IsLawfulFile one.file)
-    (record { name = codes "big.idl"; file = big_tree (last + 1) }) [] (lawful last few)
-    (All-nil (λ (one : ClosedFile). IsLawfulFile one.file)))
+    scope-accepted (big_files last) (all_lawful last few)
     (omega (arith, few, length_listed big_item (last + 1) 0)) (faultless last few)
