@@ -1,6 +1,5 @@
 -- What holds of each number below a bound, shown by computing it of each.
-use Rattle.std.proofs.Common.{◌≡◌, ℕ, zero, suc, ◌+◌, ◌<◌, ◌≤◌, Bool, true, false, ◌==◌, List, [], ◌∷◌, ◌++◌, length, get_or, slice_get, Some, None, refl, sym, ap, subst, ◌∙◌, inl, inr, ◌⊎◌, arith}
-use Rattle.big_laws.specs.Trees.{listed}
+use Rattle.std.proofs.Common.{◌≡◌, ℕ, zero, suc, ◌<◌, List, [], ◌∷◌, get_or, refl, ap, inl, inr, ◌⊎◌, arith}
 
 -- the values of the numbers below a bound, the last one first
 abbrev pub below : {A : Type 0} → (f : ℕ → A) → ℕ → List A

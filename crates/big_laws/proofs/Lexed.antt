@@ -1,17 +1,16 @@
 -- The pieces of the text of `big`.
-use Rattle.std.proofs.Common.{◌≡◌, ℕ, zero, suc, ◌+◌, ◌-◌, ◌<◌, List, [], ◌∷◌, ◌++◌, length, get_or, take, Option, Some, None, refl, sym, ap, subst, ◌∙◌, arith, append_assoc, append-nil, count_by}
+use Rattle.std.proofs.Common.{◌≡◌, ℕ, zero, suc, ◌-◌, ◌<◌, List, [], ◌∷◌, ◌++◌, length, get_or, take, Option, Some, None, refl, sym, ap, subst}
 use Rattle.std.proofs.lemmas.List.{append_cancel_right}
 use Rattle.std.specs.Fmt.{digits}
 use Rattle.idl_lexer.specs.declared.token.Kind.{Kind}
 use Rattle.idl_lexer.specs.Classes.{is_in}
 use Rattle.idl_lexer.specs.Parts.{any, some, short, is_name, keys, is_key, is_word}
 use Rattle.idl_lexer.specs.Spelling.{iid, native, hexadecimal, decimal, include, language}
-use Rattle.idl_lexer.specs.Reading.{piece_at, token_at, numbered_at, lettered_at, name_at, after_mark, after_number, after_run, after_comment, after_code, after_block}
+use Rattle.idl_lexer.specs.Reading.{piece_at, token_at, numbered_at, lettered_at, name_at, after_mark, after_number, after_run, after_comment}
 use Rattle.idl_lexer.specs.Pieces.{Piece, IsPiece, IsChain, text_of}
 use Rattle.idl_lexer.proofs.PieceLaws.{piece-sound}
 use Rattle.big_texts.specs.Idl.{iface_text}
-use Rattle.big_laws.specs.Trees.{listed}
-use Rattle.big_laws.proofs.Below.{below, same_at}
+use Rattle.big_laws.proofs.Below.{same_at}
 
 -- what the lexer finds at the front of a text, and then in what is left
 abbrev with_found : List ℕ → Option (Option Kind × List ℕ) → (List ℕ → List Piece) → List Piece
@@ -48,9 +47,10 @@ chained (p ∷ ps) next same =
     ap (λ xs. get_or xs 0 None) same in
     let found = piece-sound (p.text ++ (text_of ps ++ next)) (text_of ps ++ next) p.kind first in
     let text : found.0 ≡ p.text =
-    sym (append_cancel_right p.text found.0 (text_of ps ++ next) found.1) in
-    (subst (λ t. IsPiece p.kind t (text_of ps ++ next)) text found.2,
-    chained ps next (ap the_rest same))
+    sym (append_cancel_right p.text found.0 (text_of ps ++ next) found.1) in (
+      subst (λ t. IsPiece p.kind t (text_of ps ++ next)) text found.2,
+      chained ps next (ap the_rest same),
+    )
 
 -- each interface is a chain of its pieces, whatever follows it
 pub iface_chain : (i : ℕ) → i < 250 → (next : List ℕ) → IsChain (iface_pieces i) next

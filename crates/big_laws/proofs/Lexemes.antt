@@ -1,5 +1,5 @@
 -- The tokens of the text of `big`, and its tree.
-use Rattle.std.proofs.Common.{◌≡◌, ℕ, zero, suc, ◌+◌, ◌*◌, ◌-◌, ◌<◌, ◌≤◌, ◌==◌, List, [], ◌∷◌, ◌++◌, length, get_or, take, drop, Option, Some, None, Ok, refl, sym, ap, subst, ◌∙◌, arith, append_assoc, append-nil, length-append, count_by, cond, take_at, drop_at}
+use Rattle.std.proofs.Common.{◌≡◌, ℕ, zero, suc, ◌+◌, ◌*◌, ◌-◌, ◌<◌, ◌≤◌, ◌==◌, List, [], ◌∷◌, ◌++◌, length, take, drop, Option, Some, None, Ok, refl, sym, ap, subst, ◌∙◌, arith, append_assoc, append-nil, count_by, cond, take_at, drop_at}
 use Rattle.std.proofs.lemmas.List.Sums.{sum_by-append}
 use Rattle.std.specs.Fmt.{digits}
 use Rattle.idl_lexer.specs.declared.token.Kind.{Kind}
@@ -7,9 +7,9 @@ use Rattle.idl_lexer.specs.declared.token.Token.{Token}
 use Rattle.idl_lexer.specs.Classes.{is_in}
 use Rattle.idl_lexer.specs.Parts.{any, some, short, is_name, keys, is_key, is_word}
 use Rattle.idl_lexer.specs.Spelling.{iid, native, hexadecimal, decimal, include, language}
-use Rattle.idl_lexer.specs.Reading.{piece_at, token_at, numbered_at, lettered_at, name_at, after_mark, after_number, after_run, after_comment, after_code, after_block, is_whole}
+use Rattle.idl_lexer.specs.Reading.{piece_at, token_at, numbered_at, lettered_at, name_at, after_mark, after_number, after_run, after_comment, is_whole}
 use Rattle.idl_lexer.specs.Pieces.{Piece, IsPiece, IsChain, text_of}
-use Rattle.idl_lexer.specs.Tokens.{line_behind, with_token, tokens_behind, spelling_of}
+use Rattle.idl_lexer.specs.Tokens.{line_behind, with_token, tokens_behind}
 use Rattle.idl_grammar.specs.Grammar as g
 use Rattle.idl_grammar.specs.Grammar.{one_item, file}
 use Rattle.idl_grammar.specs.Read.{Outcome, pair, read}
@@ -20,11 +20,11 @@ use Rattle.idl_grammar.specs.Texts.{HasTree}
 use Rattle.idl_grammar.specs.declared.tree.Item.{Item}
 use Rattle.idl_grammar.proofs.Predictive.{item-predictive}
 use Rattle.idl_grammar.proofs.Sound.{Sound, sound}
-use Rattle.big_texts.specs.Idl.{iface_text, big_idl}
+use Rattle.big_texts.specs.Idl.{iface_text}
 use Rattle.big_texts.specs.Pieces.{pieces}
 use Rattle.big_laws.specs.Trees.{listed, big_item, big_tree}
-use Rattle.big_laws.proofs.Below.{below, same_at}
-use Rattle.big_laws.proofs.Lexed.{iface_pieces, iface_chain, iface_whole, scanned}
+use Rattle.big_laws.proofs.Below.{same_at}
+use Rattle.big_laws.proofs.Lexed.{iface_pieces, iface_chain, iface_whole}
 
 -- ---- the pieces of a file
 
@@ -60,7 +60,7 @@ from_text zero i within =
 from_text (suc n) i within =
     let whole = iface_whole i (omega (arith, within)) in
     let here : pieces iface_text i ++ text_of (iface_pieces i ++ pieces_from (suc i) n)
-        ≡ pieces iface_text (suc i) ++ text_of (pieces_from (suc i) n) =
+    ≡ pieces iface_text (suc i) ++ text_of (pieces_from (suc i) n) =
     ap (λ t. pieces iface_text i ++ t) (text_append (iface_pieces i) (pieces_from (suc i) n))
     ∙ ap (λ t. pieces iface_text i ++ (t ++ text_of (pieces_from (suc i) n))) whole
     ∙ sym (append_assoc (pieces iface_text i) (iface_text i) (text_of (pieces_from (suc i) n))) in
@@ -120,7 +120,7 @@ lexed_among whole before (p ∷ ps) line is on =
     ap (drop (length before)) is ∙ drop_at before (p.text ++ text_of ps) _ refl in
     let size : length before + length p.text - length before ≡ length p.text = omega arith in
     let spelled : take (length before + length p.text - length before) (drop (length before) whole)
-        ≡ p.text =
+    ≡ p.text =
     ap (take (length before + length p.text - length before)) start
     ∙ take_at p.text (text_of ps) _ (sym size) in
     let further : line_behind (before ++ p.text) ≡ line + feeds p.text =
@@ -139,6 +139,7 @@ item_read i within = whole (read one_item (lexed (4 * i + 1) (iface_pieces i))) 
   where
     is : read one_item (lexed (4 * i + 1) (iface_pieces i)) ≡ Ok (pair (big_item i) [])
     is = same_at (λ k. read one_item (lexed (4 * k + 1) (iface_pieces k))) (λ k. Ok (pair (big_item k) [])) 250 refl i within
+
     whole : (o : Outcome Item) → o ≡ Ok (pair (big_item i) [])
         → Sound one_item (lexed (4 * i + 1) (iface_pieces i)) o
         → Reads one_item (lexed (4 * i + 1) (iface_pieces i)) (big_item i)
@@ -155,11 +156,14 @@ pub items_read : (n i : ℕ) → i + n ≤ 250
 items_read zero i within = refl
 items_read (suc n) i within =
     let far : 4 * i + 1 + feeds (text_of (iface_pieces i)) ≡ 4 * suc i + 1 =
-    omega (arith, four_lines i (omega (arith, within))) in
-    (lexed (4 * i + 1) (iface_pieces i), lexed (4 * suc i + 1) (pieces_from (suc i) n),
-    lexed_append (4 * i + 1) (iface_pieces i) (pieces_from (suc i) n)
-    ∙ ap (λ l. lexed (4 * i + 1) (iface_pieces i) ++ lexed l (pieces_from (suc i) n)) far,
-    item_read i (omega (arith, within)), items_read n (suc i) (omega (arith, within)))
+    omega (arith, four_lines i (omega (arith, within))) in (
+      lexed (4 * i + 1) (iface_pieces i),
+      lexed (4 * suc i + 1) (pieces_from (suc i) n),
+      lexed_append (4 * i + 1) (iface_pieces i) (pieces_from (suc i) n)
+          ∙ ap (λ l. lexed (4 * i + 1) (iface_pieces i) ++ lexed l (pieces_from (suc i) n)) far,
+      item_read i (omega (arith, within)),
+      items_read n (suc i) (omega (arith, within)),
+    )
 
 pub has_tree : (count : ℕ) → count ≤ 250 → HasTree (pieces iface_text count) (big_tree count)
 unfolding file

@@ -1,25 +1,21 @@
 -- The scope of `big` keeps the limits of a typelib, and its bytes are no more than a typelib has.
-use Rattle.std.proofs.Common.{◌≡◌, ℕ, zero, suc, ◌+◌, ◌*◌, ◌-◌, ◌<◌, ◌≤◌, ◌||◌, nat_le, nat_lt, Bool, true, false, List, [], ◌∷◌, ◌++◌, length, map, slice_get, Option, Some, None, sum_by, refl, sym, ap, subst, ◌∙◌, inl, inr, ◌⊎◌, arith, length-append, option_and_then, ◌==◌}
+use Rattle.std.proofs.Common.{◌≡◌, ℕ, zero, suc, ◌+◌, ◌*◌, ◌-◌, ◌<◌, ◌≤◌, nat_le, Bool, true, false, List, [], ◌∷◌, ◌++◌, length, map, slice_get, Option, Some, None, sum_by, refl, sym, ap, subst, ◌∙◌, inl, inr, ◌⊎◌, arith, length-append, option_and_then, ◌==◌}
 use Rattle.std.proofs.lemmas.Bool.{eqb-true, leb-true, le-ltb}
 use Rattle.std.proofs.lemmas.List.{length-map}
 use Rattle.std.proofs.lemmas.List.Sums.{sum_by-cons}
 use Rattle.std.specs.Fmt.{digits}
 use Rattle.std.specs.List.{AllByRecursion, list_any}
 use Rattle.uuid.specs.Text.{by_index}
-use Rattle.xp_base.specs.declared.limits.TheConstants.{MAX_TYPELIB}
-use Rattle.idl_meaning.specs.declared.scope.Scope.{Scope}
 use Rattle.idl_meaning.specs.declared.scope.ScopeIface.{ScopeIface}
-use Rattle.idl_meaning.specs.declared.scope.ScopeMember.{ScopeMember}
 use Rattle.idl_meaning.specs.Scopes.{scope_of}
 use Rattle.lib_model.specs.declared.contents.Iface.{Iface}
-use Rattle.lib_model.specs.declared.contents.Library.{Library}
 use Rattle.lib_model.specs.Emit as e
 use Rattle.lib_model.specs.Emit.{emit, part_size, part_text, pool_text}
-use Rattle.lib_model.specs.Valid.{iface_items, item_count, IsValid}
+use Rattle.lib_model.specs.Valid.{iface_items}
 use Rattle.lib_model.proofs.FileSize.{length_emit}
 use Rattle.lib_model.proofs.Sizes.{length-placed, length_part_text}
 use Rattle.vtable_layout.specs.Layout.{has_too_many}
-use Rattle.vtable_layout.specs.Slots.{Slot, above, chain_within, own_of, own_in, parent_of, slots_within}
+use Rattle.vtable_layout.specs.Slots.{above, chain_within, own_of, own_in, parent_of, slots_within}
 use Rattle.prototype_lowering.specs.Accepted.{IsAccepted}
 use Rattle.prototype_lowering.specs.Directory.{directory_of, in_order}
 use Rattle.prototype_lowering.specs.Limits.{KeepsLimits, has_many_constants, has_too_many_items, is_wide, is_wide_at, is_wide_found}
@@ -28,7 +24,7 @@ use Rattle.prototype_lowering.proofs.DirectoryLaws.{length_in_order}
 use Rattle.prototype_lowering.proofs.ScopeFacts.{each_found}
 use Rattle.prototype_lowering.proofs.Validity.{library_valid}
 use Rattle.big_laws.specs.Trees.{listed, big_files}
-use Rattle.big_laws.proofs.Below.{below, same_at}
+use Rattle.big_laws.proofs.Below.{same_at}
 use Rattle.big_laws.proofs.Listed.{length_listed, listed_found}
 use Rattle.big_laws.proofs.Meant.{accepted_scope, big_member_meant, faultless, scope_iface, scope_is}
 
@@ -76,6 +72,7 @@ no_late_parent n k = go (slice_get (ifaces n) k) refl
     at : (k : ℕ) → ((scope_iface k).parent ≡ None) ⊎ ((p : ℕ) × ((scope_iface k).parent ≡ Some p) × (p < k))
     at zero = inl refl
     at (suc k) = let less : suc k - 1 < suc k = omega arith in inr (suc k - 1, rw (not_zero k) refl, less)
+
     go : (o : Option ScopeIface) → slice_get (ifaces n) k ≡ o
         → (option_and_then (λ (i : ScopeIface). i.parent) o ≡ None) ⊎ ((p : ℕ) × (option_and_then (λ (i : ScopeIface). i.parent) o ≡ Some p) × (p < k))
     go None is = inl refl
@@ -115,8 +112,13 @@ slots_short n (suc m) k = go (parent_of (ifaces n) k) (no_late_parent n k) (slot
         → length (above (slots_within (ifaces n) m) o ++ own_of (ifaces n) k) ≤ k + 1
     go o (inl is) short = rw is (omega (arith, few_own n k))
     go o (inr h) short =
-        rw h.1 (omega (arith, length-append (slots_within (ifaces n) m h.0) (own_of (ifaces n) k),
-        short h.0, h.2, few_own n k))
+        rw h.1 (omega (
+          arith,
+          length-append (slots_within (ifaces n) m h.0) (own_of (ifaces n) k),
+          short h.0,
+          h.2,
+          few_own n k,
+        ))
 
 few_slots : (n : ℕ) → n ≤ 250 → (k : ℕ) → k < n → has_too_many (ifaces n) k ≡ false
 few_slots n few k within =
@@ -158,8 +160,12 @@ summed f d each [] all = omega arith
 summed f d each (x ∷ xs) all =
     let here : f (iface_of d x) ≤ 400 =
     subst (λ y. f (iface_of d y) ≤ 400) (sym all.0.2) (each all.0.0 all.0.1) in
-    omega (arith, sum_by-cons f (iface_of d x) (map (iface_of d) xs), here,
-    summed f d each xs all.1)
+    omega (
+      arith,
+      sum_by-cons f (iface_of d x) (map (iface_of d) xs),
+      here,
+      summed f d each xs all.1,
+    )
 
 none_many : (d : List ℕ) (xs : List ScopeIface) → AllByRecursion IsOurs xs
     → list_any has_many_constants (map (iface_of d) xs) ≡ false
@@ -184,9 +190,11 @@ few_in_library last few =
     let d = directory_of (ifaces n) in
     let all = ours n (omega (arith, few)) in
     let sum = summed iface_items d (few_items d) (in_order (ifaces n)) all in
-    rw (none_many d (in_order (ifaces n)) all,
-    le-ltb 1000000 (sum_by iface_items (map (iface_of d) (in_order (ifaces n))))
-    (omega (arith, sum, in_order_long last few, few))) refl)
+    rw (
+      none_many d (in_order (ifaces n)) all,
+      le-ltb 1000000 (sum_by iface_items (map (iface_of d) (in_order (ifaces n))))
+          (omega (arith, sum, in_order_long last few, few)),
+    ) refl)
 
 pub roomy : (last : ℕ) → last ≤ 249 → KeepsLimits (scope_of (big_files last))
 roomy last few =
@@ -208,9 +216,13 @@ pool_short last few =
     (let n = last + 1 in
     let d = directory_of (ifaces n) in
     let sum = summed part_size d (small d) (in_order (ifaces n)) (ours n (omega (arith, few))) in
-    omega (arith, sum, in_order_long last few,
-    length-placed part_text part_size part_size length_part_text 1
-    (map (iface_of d) (in_order (ifaces n)))))
+    omega (
+      arith,
+      sum,
+      in_order_long last few,
+      length-placed part_text part_size part_size length_part_text 1
+          (map (iface_of d) (in_order (ifaces n))),
+    ))
 
 many_in_library : (last : ℕ) → last ≤ 249
     → length (library_of (scope_of (big_files last))).ifaces ≡ last + 1
@@ -227,6 +239,11 @@ accepted last few =
     record {
       faultless = faultless last few;
       roomy = roomy last few;
-      short = omega (arith, length_emit (library_of scope) valid, many_in_library last few,
-      pool_short last few, few);
+      short = omega (
+        arith,
+        length_emit (library_of scope) valid,
+        many_in_library last few,
+        pool_short last few,
+        few,
+      );
     }

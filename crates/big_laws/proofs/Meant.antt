@@ -1,34 +1,32 @@
 -- The file of `big` is an include closure without faults, and this is its scope.
-use Rattle.std.proofs.Common.{◌≡◌, ℕ, zero, suc, ◌+◌, ◌*◌, ◌-◌, ◌^◌, ◌<◌, ◌≤◌, ◌==◌, nat_le, Bool, true, false, List, [], ◌∷◌, ◌++◌, length, get_or, Option, Some, None, refl, sym, ap, subst, ◌∙◌, arith, append-nil, length-append, codes, if◌then◌else◌, All}
-use Rattle.std.proofs.lemmas.Bool.{leb-true, le-leb, and_parts}
+use Rattle.std.proofs.Common.{◌≡◌, ℕ, zero, suc, ◌+◌, ◌*◌, ◌-◌, ◌≤◌, ◌==◌, nat_le, true, false, List, [], ◌∷◌, ◌++◌, length, get_or, Some, None, refl, sym, ap, ◌∙◌, arith, append-nil, length-append, codes, if◌then◌else◌}
+use Rattle.std.proofs.lemmas.Bool.{leb-true, le-leb}
 use Rattle.std.proofs.lemmas.List.Elements.{All-cons, All-nil}
 use Rattle.std.specs.Fmt.{digits}
 use Rattle.uuid.specs.Text.{by_index}
-use Rattle.xp_base.specs.Files.{Files, with_file}
 use Rattle.xp_base.specs.declared.limits.TheConstants.{MAX_TEXT}
 use Rattle.idl_lexer.proofs.LexLaws.{tokens-count}
 use Rattle.idl_grammar.specs.declared.tree.ClosedFile.{ClosedFile}
 use Rattle.idl_grammar.specs.declared.tree.Item.{Item}
-use Rattle.idl_grammar.specs.ClosedFiles.{AreLawfulFiles, items_of}
-use Rattle.idl_grammar.specs.Texts.{HasTree, IsLawfulFile}
+use Rattle.idl_grammar.specs.ClosedFiles.{AreLawfulFiles}
+use Rattle.idl_grammar.specs.Texts.{IsLawfulFile}
 use Rattle.include_closure.specs.Closure.{IsClosure, Whole, done, taken, nothing, begins, closes, has_room}
 use Rattle.include_closure.specs.Names.{includes}
-use Rattle.idl_meaning.specs.declared.scope.Meant.TheVariants as meant
 use Rattle.idl_meaning.specs.declared.scope.ScopeBody.TheVariants as body
 use Rattle.idl_meaning.specs.declared.scope.ScopeIface.{ScopeIface}
 use Rattle.idl_meaning.specs.declared.scope.ScopeMember.{ScopeMember}
 use Rattle.idl_grammar.specs.declared.tree.TypeName.TheVariants as type
 use Rattle.idl_meaning.specs.Accepted.{IsAcceptedScope}
-use Rattle.idl_meaning.specs.Faults.{Fault, faults_of, file_faults, item_faults}
+use Rattle.idl_meaning.specs.Faults.{faults_of, file_faults, item_faults}
 use Rattle.idl_meaning.specs.Meaning as m
 use Rattle.idl_meaning.specs.Meaning.{sense}
-use Rattle.idl_meaning.specs.Scopes.{Known, nothing_known, after, after_items, iface_made, number_in, params_made, result_of, scope_of}
+use Rattle.idl_meaning.specs.Scopes.{Known, nothing_known, after, after_items, iface_made, params_made, result_of, scope_of}
 use Rattle.idl_meaning.proofs.WholeScope.{scope-accepted}
 use Rattle.big_texts.specs.Files.{idl_files}
 use Rattle.big_texts.specs.Idl.{big_idl, iface_text, param_count}
 use Rattle.big_texts.specs.Pieces.{decimal, pieces}
 use Rattle.big_laws.specs.Trees.{listed, big_files, big_iface, big_item, big_param, big_tree}
-use Rattle.big_laws.proofs.Below.{below, same_at}
+use Rattle.big_laws.proofs.Below.{same_at}
 use Rattle.big_laws.proofs.Lexemes.{has_tree}
 use Rattle.big_laws.proofs.Listed.{length_listed, listed_at, listed_split}
 
@@ -41,8 +39,12 @@ text_short (suc n) few =
     let one : length (iface_text n) ≤ 800 =
     leb-true (length (iface_text n)) 800
     (same_at (λ k. nat_le (length (iface_text k)) 800) (λ k. true) 250 refl n (omega (arith, few))) in
-    omega (arith, length-append (pieces iface_text n) (iface_text n),
-    text_short n (omega (arith, few)), one)
+    omega (
+      arith,
+      length-append (pieces iface_text n) (iface_text n),
+      text_short n (omega (arith, few)),
+      one,
+    )
 
 no_includes : (n i : ℕ) → includes (listed big_item i n) ≡ []
 no_includes zero i = refl
@@ -54,17 +56,19 @@ closed last few =
     let alone : nat_le (length (big_idl last)) MAX_TEXT ≡ true =
     le-leb (length (big_idl last)) MAX_TEXT (omega (arith, short, few)) in
     let room : has_room 0 (big_idl last) ≡ true = rw alone (le-leb _ _ (omega (arith, short, few))) in
-    let inner = begins nothing (codes "big.idl") (big_idl last) in
-    (closes inner (codes "big.idl") (big_tree (last + 1)),
-    taken (codes "big.idl") [] nothing inner (big_idl last) (big_tree (last + 1))
-    (Whole (closes inner (codes "big.idl") (big_tree (last + 1))))
-    (record {
-      fresh = refl;
-      short = record { there = refl; room = room };
-      says = has_tree (last + 1) (omega (arith, few));
-    })
-    (rw (no_includes (last + 1) 0) (done inner))
-    (done (closes inner (codes "big.idl") (big_tree (last + 1)))), refl)
+    let inner = begins nothing (codes "big.idl") (big_idl last) in (
+      closes inner (codes "big.idl") (big_tree (last + 1)),
+      taken (codes "big.idl") [] nothing inner (big_idl last) (big_tree (last + 1))
+          (Whole (closes inner (codes "big.idl") (big_tree (last + 1))))
+          (record {
+            fresh = refl;
+            short = record { there = refl; room = room };
+            says = has_tree (last + 1) (omega (arith, few));
+          })
+          (rw (no_includes (last + 1) 0) (done inner))
+          (done (closes inner (codes "big.idl") (big_tree (last + 1)))),
+      refl,
+    )
 
 -- ---- no faults
 
@@ -151,8 +155,12 @@ lawful last few =
     record {
       bytes = big_idl last;
       has = has;
-      few = omega (arith, few, text_short (last + 1) (omega (arith, few)),
-      tokens-count (big_idl last) has.tokens has.spelled);
+      few = omega (
+        arith,
+        few,
+        text_short (last + 1) (omega (arith, few)),
+        tokens-count (big_idl last) has.tokens has.spelled,
+      );
     }
 
 pub all_lawful : (last : ℕ) → last ≤ 249 → AreLawfulFiles (big_files last)

@@ -20,7 +20,7 @@ use Rattle.call_scripts.proofs.TextLines.{lines_cut}
 use Rattle.big_texts.specs.Idl.{iface_name}
 use Rattle.big_texts.specs.Pieces.{line, pieces}
 use Rattle.big_texts.specs.Script.{big_script, call_text, made_text, reply_text}
-use Rattle.big_laws.proofs.Below.{below, same_at}
+use Rattle.big_laws.proofs.Below.{same_at}
 
 -- ---- lines that are read
 
@@ -68,9 +68,10 @@ all_read (text ∷ texts) number good =
     let parts = and_parts (lacks 10 text) _ (good.0 number) in
     let more = and_parts (bytes_eq (strip_carriage_return text) text) _ parts.1 in
     let one = one_read number text (line_of number text) refl more.1 in
-    let rest = all_read texts (number + 1) good.1 in
-    (one.0 ∷ rest.0,
-    inr (one.0, rest.0, refl, line_read number text (Some one.0) one.1, rest.1))
+    let rest = all_read texts (number + 1) good.1 in (
+      one.0 ∷ rest.0,
+      inr (one.0, rest.0, refl, line_read number text (Some one.0) one.1, rest.1),
+    )
 
 -- ---- the lines of the script
 
@@ -107,9 +108,13 @@ call_good i within number =
 
 made_good : (n i : ℕ) → i + n ≤ 250 → AreGood (made_from i n)
 made_good zero i within = tt
-made_good (suc n) i within =
-    (reply_good i (omega (arith, within)), (call_good i (omega (arith, within)),
-    made_good n (suc i) (omega (arith, within))))
+made_good (suc n) i within = (
+  reply_good i (omega (arith, within)),
+  (
+    call_good i (omega (arith, within)),
+    made_good n (suc i) (omega (arith, within)),
+  ),
+)
 
 pub script_read : (last : ℕ) → last ≤ 249 → (script : Script) × IsScript (big_script last) script
 script_read last few =
@@ -131,8 +136,12 @@ made_short (suc n) few =
     let one : length (made_text n) ≤ 200 =
     leb-true (length (made_text n)) 200
     (same_at (λ k. nat_le (length (made_text k)) 200) (λ k. true) 250 refl n (omega (arith, few))) in
-    omega (arith, length-append (pieces made_text n) (made_text n),
-    made_short n (omega (arith, few)), one)
+    omega (
+      arith,
+      length-append (pieces made_text n) (made_text n),
+      made_short n (omega (arith, few)),
+      one,
+    )
 
 pub script_short : (last : ℕ) → last ≤ 249 → length (big_script last) ≤ MAX_TEXT
 unfolding digits
@@ -141,5 +150,10 @@ script_short last few =
     leb-true (length (line (codes "object o " ++ iface_name last))) 200
     (same_at (λ k. nat_le (length (line (codes "object o " ++ iface_name k))) 200) (λ k. true) 250
     refl last (omega (arith, few))) in
-    omega (arith, few, one, made_short (last + 1) (omega (arith, few)),
-    length-append (line (codes "object o " ++ iface_name last)) (pieces made_text (last + 1)))
+    omega (
+      arith,
+      few,
+      one,
+      made_short (last + 1) (omega (arith, few)),
+      length-append (line (codes "object o " ++ iface_name last)) (pieces made_text (last + 1)),
+    )

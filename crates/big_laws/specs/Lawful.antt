@@ -1,5 +1,5 @@
 -- What it is that the texts of `big N` are lawful.
-use Rattle.std.specs.Prelude.{ℕ, ◌≤◌, List, [], ◌∷◌, length, codes}
+use Rattle.std.specs.Prelude.{ℕ, ◌≤◌, [], ◌∷◌, length, codes}
 use Rattle.xp_base.specs.declared.limits.TheConstants.{MAX_TEXT}
 use Rattle.idl_grammar.specs.ClosedFiles.{AreLawfulFiles}
 use Rattle.include_closure.specs.Closure.{IsClosure}
