@@ -1,3 +1,4 @@
+pub mod Files
 pub mod Idl
 pub mod Numbers
 pub mod Pieces

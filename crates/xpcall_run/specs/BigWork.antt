@@ -1,29 +1,16 @@
 -- The work of `big N`, over files of its own: an IDL file is compiled, and a script is called over
 -- the typelib, under three conventions.
 use Rattle.std.specs.Prelude.{◌≡◌, ◌⊎◌, ℕ, ◌+◌, List, [], ◌∷◌, ◌++◌, codes, Some}
-use Rattle.xp_base.specs.Files.{Files, with_file}
+use Rattle.xp_base.specs.Files.{Files}
 use Rattle.call_model.specs.declared.places.Conv.{Conv}
 use Rattle.call_model.specs.declared.places.Conv.TheVariants.{SysV64, I386, Aapcs64}
-use Rattle.big_texts.specs.Idl.{big_idl}
-use Rattle.big_texts.specs.Script.{big_script}
+use Rattle.big_texts.specs.Files.{call_files, idl_files}
 use Rattle.big_texts.specs.Summary.{calls_text, typelib_text}
 use Rattle.xpcall_run.specs.declared.failures.Refusal.{Refusal}
 use Rattle.xpcall_run.specs.CallWork.{call_work}
 use Rattle.xpcall_run.specs.CompileWork.{compile_work}
 use Rattle.xpcall_run.specs.Sides.{Given}
 use Rattle.xpcall_run.specs.Works.{Outcome, Written, Denied, Work, Quietly, settles}
-
--- ---- its files
-
--- the IDL file whose last interface has this number
-abbrev pub idl_files : (last : ℕ) → Files
-idl_files last = with_file [] (codes "big.idl") (big_idl last)
-
--- beside it the typelib, and the script over it
-abbrev pub call_files : (last : ℕ) → (typelib : List ℕ) → Files
-call_files last typelib =
-    with_file (with_file (idl_files last) (codes "big.xpt") typelib)
-    (codes "big.txt") (big_script last)
 
 -- ---- what these come to
 
