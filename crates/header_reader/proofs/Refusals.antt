@@ -20,7 +20,7 @@ use Rattle.header_reader.specs.declared.error.HeaderReadError.{HeaderReadError}
 use Rattle.header_reader.specs.declared.error.HeaderReadError.TheVariants.{At, Memory}
 use Rattle.header_reader.specs.Refused.{AreBegun, Blames, IsRefused}
 use Rattle.header_reader.proofs.LineForms.{line_read, line_spelled}
-use Rattle.header_reader.proofs.Outcomes.{lines_first, no_lines}
+use Rattle.header_model.proofs.TextLines.{lines_first, no_lines}
 
 -- ---- lines that lead from one state to another
 
