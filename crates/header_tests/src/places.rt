@@ -1,6 +1,5 @@
 //! Where the arguments of declared functions are passed.
 
-ghost use Rattle.std.specs.Prelude.{IfOk};
 ghost use Rattle.header_model.specs.Declares.{Declares};
 
 use crate::readings::class_of;
@@ -108,17 +107,16 @@ slot 2 H s0 s4 s8 s16 s24 s32 s40 s48 s56 s64\n",
 ];
 
 /// The classes of a text.
-fn declared(rt: &impl Abort, alloc: Global, text: &str) -> List<Decl>
-    ensures { Declares text.bytes result }
+fn declared(rt: &impl Abort, alloc: Global, text: &[u8]) -> List<Decl>
+    ensures { Declares text.now result }
 {
-    let bytes = text.as_bytes();
-    assert!(rt; bytes.len() <= MAX_HEADER);
-    read_header(alloc, bytes).expect(rt, "declarations")
+    assert!(rt; text.len() <= MAX_HEADER);
+    read_header(alloc, text).expect(rt, "declarations")
 }
 
 /// Where the arguments of a text's functions are passed.
 fn places_of(rt: &impl Abort, alloc: Global, conv: Conv, text: &str) -> Bytes {
-    let decls = declared(rt, alloc, text);
+    let decls = declared(rt, alloc, text.as_bytes());
     places(alloc, conv, &decls).expect(rt, "places")
 }
 

@@ -7,11 +7,12 @@ use Rattle.xp_base.specs.Files.{Files}
 use Rattle.xp_base.specs.declared.limits.TheConstants.{MAX_TEXT, MAX_TYPELIB}
 use Rattle.call_model.specs.declared.places.Conv.{Conv}
 use Rattle.call_model.specs.declared.places.Conv.TheVariants.{SysV64, I386, Aapcs64}
+use Rattle.big_texts.specs.Files.{call_files, idl_files}
 use Rattle.big_texts.specs.Summary.{calls_text, typelib_text}
 use Rattle.xpcall_run.specs.declared.failures.Failure.{Failure}
 use Rattle.xpcall_run.specs.declared.failures.Failure.TheVariants.{CannotRead, CannotWrite, OutOfMemory, Refused}
 use Rattle.xpcall_run.specs.declared.failures.Refusal.{Refusal}
-use Rattle.xpcall_run.specs.BigWork.{BigCalls, BigCompiles, RefusesBig, RefusesBigCalls, WritesBigTypelib, WritesCallsLine, WritesSummary, big_work, call_files, idl_files}
+use Rattle.xpcall_run.specs.BigWork.{BigCalls, BigCompiles, RefusesBig, RefusesBigCalls, WritesBigTypelib, WritesCallsLine, WritesSummary, big_work}
 use Rattle.xpcall_run.specs.CallWork.{call_work, play_work, script_work}
 use Rattle.xpcall_run.specs.CompileWork.{compile_work}
 use Rattle.xpcall_run.specs.Endings.{IsFirst, IsRefused}
